@@ -1,0 +1,85 @@
+use super::*;
+use std::alloc::{AllocError, Global};
+use std::test::Fail;
+
+fn file(alloc: Global, name: &str, bytes: &[u8]) -> Result<(String, Vec<u8>), AllocError> {
+    Ok((String::from_str(alloc, name)?, bytes.to_vec(alloc)?))
+}
+
+#[test]
+fn a_file_is_read_whole_in_small_pieces(rt: HostRuntime) -> Result<(), Fail> {
+    let alloc = rt.alloc();
+    let mut files = Vec::new(alloc);
+    files.push(file(alloc, "k", b"kernel")?)?;
+    files.push(file(alloc, "k", b"other")?)?;
+    let mut depot = MemoryDepot::new(files, vec![in alloc; 1, 0, 2]?, Vec::new(alloc));
+    let bytes = read_all(alloc, &mut depot, "k", 6).ok().ok_or("not read")?;
+    assert_eq!(rt; bytes.as_slice(), b"kernel".as_slice());
+    assert!(rt; read_all(alloc, &mut depot, "k", 5).err() == Some(ReadStop::TooLong));
+    assert!(rt; read_all(alloc, &mut depot, "l", 5).err() == Some(ReadStop::Fault));
+    Ok(())
+}
+
+#[test]
+fn a_listed_call_fails(rt: HostRuntime) -> Result<(), Fail> {
+    let alloc = rt.alloc();
+    let mut files = Vec::new(alloc);
+    files.push(file(alloc, "k", b"kernel")?)?;
+    let mut depot = MemoryDepot::new(files, Vec::new(alloc), vec![in alloc; 2]?);
+    assert!(rt; read_all(alloc, &mut depot, "k", 6).err() == Some(ReadStop::Fault));
+    assert!(rt; read_all(alloc, &mut depot, "k", 6).is_ok());
+    Ok(())
+}
+
+#[test]
+fn a_file_is_read_in_pieces_up_to_its_limit(rt: HostRuntime) -> Result<(), Fail> {
+    let alloc = rt.alloc();
+    let mut files = Vec::new(alloc);
+    files.push(file(alloc, "k", b"kernel")?)?;
+    let mut depot = MemoryDepot::new(files, vec![in alloc; 4]?, Vec::new(alloc));
+    let mut piece = [0u8; 8];
+    assert!(rt; depot.choose("k").is_ok());
+    assert!(rt; read_piece(&mut depot, "k", &mut piece, 0, 6).ok() == Some(4));
+    assert_eq!(rt; &piece[..4], b"kern".as_slice());
+    assert!(rt; read_piece(&mut depot, "k", &mut piece, 4, 6).ok() == Some(2));
+    assert!(rt; read_piece(&mut depot, "k", &mut piece, 6, 6).ok() == Some(0));
+    assert!(rt; depot.choose("k").is_ok());
+    assert!(rt; read_piece(&mut depot, "k", &mut piece, 3, 6).err() == Some(PieceStop::TooLong));
+    Ok(())
+}
+
+#[test]
+fn a_listed_write_fails(rt: HostRuntime) -> Result<(), Fail> {
+    let alloc = rt.alloc();
+    let sizes = vec![in alloc; 2]?;
+    let mut sink = MemorySink::new(sizes, vec![in alloc; 3]?, vec![in alloc; 0; 9]?);
+    assert!(rt; write_all(&mut sink, b"").is_ok());
+    assert!(rt; write_all(&mut sink, b"abcdefgh").is_err());
+    assert_eq!(rt; sink.written(), b"abcd".as_slice());
+    Ok(())
+}
+
+#[test]
+fn an_output_fills_its_room(rt: HostRuntime) -> Result<(), Fail> {
+    let alloc = rt.alloc();
+    let mut sink = MemorySink::new(vec![in alloc; 2]?, Vec::new(alloc), vec![in alloc; 0; 5]?);
+    assert!(rt; write_all(&mut sink, b"abc").is_ok());
+    assert!(rt; write_all(&mut sink, b"def").is_err());
+    assert_eq!(rt; sink.written(), b"abcde".as_slice());
+    Ok(())
+}
+
+#[test]
+fn a_file_of_the_host_is_read(rt: HostRuntime) -> Result<(), Fail> {
+    let alloc = rt.alloc();
+    std::fs::write(&rt, "here", "text")?;
+    let mut depot = FileDepot::new(&rt);
+    let bytes = read_all(alloc, &mut depot, "here", 4)
+        .ok()
+        .ok_or("not read")?;
+    assert_eq!(rt; bytes.as_slice(), b"text".as_slice());
+    assert!(rt; read_all(alloc, &mut depot, "nowhere", 4).err() == Some(ReadStop::Fault));
+    let mut sink = StreamSink::new(std::io::writer(&rt));
+    assert!(rt; write_all(&mut sink, b"").is_ok());
+    Ok(())
+}
