@@ -1,0 +1,10 @@
+pub mod Forms
+pub mod Numerals
+pub mod Values
+pub mod Exact
+pub mod Wide
+pub mod Deciding
+pub mod Printed
+pub mod Signed
+pub mod Quotients
+pub mod Reduced

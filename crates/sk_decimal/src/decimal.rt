@@ -1,0 +1,82 @@
+ghost use Rattle.std.specs.Prelude.{◌≡◌, ◌≤◌, ◌++◌, SomeIff, OnOk, OnErr};
+ghost use Rattle.sk_decimal.specs.Number.{plain_spelling};
+ghost use Rattle.sk_decimal.specs.Fixed.{FitsWide, units_of};
+
+use crate::fixed::Fixed;
+use crate::printing::{append, plain_text};
+use sk_checks::NoMemory;
+use std::marker::Model;
+use thiserror::Error;
+
+/// A decimal number, coefficient / 10 ^ scale, reduced.
+#[derive(Clone, Copy, Debug, PartialEq, Eq)]
+pub struct Decimal {
+    coefficient: i128,
+    scale: u32,
+}
+
+impl Model for Decimal {
+    ghost use Rattle.sk_decimal.specs.Number.{DecimalView, IsDecimal};
+
+    ghost Value = { DecimalView };
+
+    ghost view = { λ d. record { coefficient = d.coefficient; scale = d.scale } };
+
+    ghost invariant = { λ d. IsDecimal (record { coefficient = d.coefficient; scale = d.scale }) };
+
+    ghost inverse = { λ d. record { coefficient = d.coefficient; scale = d.scale } };
+}
+
+/// Why bytes are no decimal.
+#[derive(Clone, Copy, Debug, PartialEq, Eq, Error)]
+pub enum NumberFault {
+    #[error("the bytes spell no number")]
+    NotNumber,
+    /// They spell a number, and no decimal has its value.
+    #[error("no decimal of 128 bits has the number's value")]
+    TooWide,
+}
+
+impl Decimal {
+    ghost use Rattle.std.specs.Prelude.{◌≡◌};
+    ghost use Rattle.sk_decimal.specs.Number.{DecimalView, IsDecimal};
+
+    /// The decimal of these parts.
+    pub(crate) fn new(coefficient: i128, scale: u32) -> Decimal
+        requires { IsDecimal (record { coefficient = coefficient; scale = scale }) }
+        ensures coefficient { result.coefficient ≡ coefficient }
+        ensures scale { result.scale ≡ scale }
+    {
+        Decimal { coefficient, scale }
+    }
+
+    /// How many digits stand after the point.
+    pub fn scale(&self) -> u32
+        ensures { result ≡ self.now.scale }
+    {
+        self.scale
+    }
+
+    /// Appends the plain spelling: `-` where it is negative, the whole part, and where there are digits after the
+    /// point a point and these.
+    pub fn print(&self, out: &mut Vec<u8>) -> Result<(), NoMemory>
+        ensures ok { OnOk result (out.new.items ≡ out.old.items ++ plain_spelling self.now) }
+        ensures err { OnErr result (out.new.items ≡ out.old.items) }
+    {
+        append(out, &plain_text(self.coefficient, self.scale))
+    }
+
+    /// The same value with exactly `S` decimals; `None` exactly where it has more, or its units pass i128.
+    pub fn to_fixed<const S: u32>(&self) -> Option<Fixed<S>>
+        requires { S ≤ 18 }
+        ensures { SomeIff result ((self.now.scale ≤ S) × FitsWide (units_of S self.now)) (record { units = units_of S self.now }) }
+    {
+        if self.scale > S {
+            return None;
+        }
+        match self.coefficient.checked_mul(10i128.pow(S - self.scale)) {
+            Some(units) => Some(Fixed { units }),
+            None => None,
+        }
+    }
+}
