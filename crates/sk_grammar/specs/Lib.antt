@@ -1,0 +1,14 @@
+pub mod Lines
+pub mod Document
+pub mod Spelling
+pub mod Refusal
+pub mod Canonical
+pub mod Variables
+pub mod Answers
+pub mod Reading
+pub mod Fold
+pub mod HasTaken
+pub mod Stopping
+pub mod Taken
+pub mod Valid
+pub mod HasRead

@@ -1,0 +1,212 @@
+//! A line, behind what has been read.
+
+ghost use Rattle.std.specs.Prelude.{◌≡◌, ◌++◌, [], ◌∷◌, All, Ok, false};
+ghost use Rattle.sk_grammar.specs.declared.state.State.TheVariants.{InHead as AtHead, InData as AtData, InText as AtText};
+ghost use Rattle.sk_grammar.specs.declared.place.Place.TheVariants.{Idle as AtIdle};
+ghost use Rattle.sk_grammar.specs.Document.{IsItem, IsTextLine};
+ghost use Rattle.sk_grammar.specs.Lines.{begins_data as begins_data_line, begins_text as begins_text_line};
+ghost use Rattle.sk_grammar.specs.Fold.{take_line as taken_line, unless_open as open_answer, end_data};
+ghost use Rattle.sk_grammar.specs.Stopping.{Gives};
+ghost use Rattle.sk_grammar.specs.Valid.{IsReachedState, IsClosedItem};
+
+use crate::bytes::Bytes;
+use crate::document::{Block, Item};
+use crate::fault::Reason;
+use crate::lines::{begins_data, begins_text, has_bad_byte, with_line, without_white};
+use crate::list::List;
+use crate::place::Place;
+use crate::reading::read_line;
+use crate::state::State;
+use crate::stop::Stop;
+use crate::value::{Op, Value};
+use std::alloc::Global;
+
+/// A line in text mode, before the first block.
+fn take_head(alloc: Global, texts: List<Bytes>, line: &[u8]) -> Result<State, Stop>
+    ensures { Gives result (taken_line (AtHead texts) line.now) }
+{
+    if begins_data(line) {
+        return Ok(State::InData(
+            texts,
+            List::from_vec(Vec::new(alloc)),
+            List::from_vec(Vec::new(alloc)),
+            Place::Idle,
+        ));
+    }
+    if begins_text(line) {
+        return Ok(State::InHead(texts));
+    }
+    if line.len() > 4096 {
+        return Err(Stop::Refused(Reason::TextLineTooLong));
+    }
+    match with_line(alloc, texts, line) {
+        Err(_) => Err(Stop::OutOfMemory),
+        Ok(texts) => Ok(State::InHead(texts)),
+    }
+}
+
+/// The next block begins, behind a whole one.
+fn next_block(
+    alloc: Global,
+    head: List<Bytes>,
+    blocks: List<Block>,
+    items: List<Item>,
+    texts: List<Bytes>,
+) -> Result<State, Stop>
+    requires items { All IsItem items }
+    requires texts { All IsTextLine texts }
+    ensures { Gives result (Ok (AtData head (blocks ++ record { items = items; text = texts } ∷ []) [] AtIdle)) }
+{
+    let mut blocks = blocks;
+    match blocks.push(Block { items, text: texts }) {
+        Err(_) => Err(Stop::OutOfMemory),
+        Ok(()) => Ok(State::InData(head, blocks, List::from_vec(Vec::new(alloc)), Place::Idle)),
+    }
+}
+
+/// A line in text mode, in the last block.
+fn take_text(
+    alloc: Global,
+    head: List<Bytes>,
+    blocks: List<Block>,
+    items: List<Item>,
+    texts: List<Bytes>,
+    line: &[u8],
+) -> Result<State, Stop>
+    requires items { All IsItem items }
+    requires texts { All IsTextLine texts }
+    ensures { Gives result (taken_line (AtText head blocks items texts) line.now) }
+{
+    if begins_data(line) {
+        return next_block(alloc, head, blocks, items, texts);
+    }
+    if begins_text(line) {
+        return Ok(State::InText(head, blocks, items, texts));
+    }
+    if line.len() > 4096 {
+        return Err(Stop::Refused(Reason::TextLineTooLong));
+    }
+    match with_line(alloc, texts, line) {
+        Err(_) => Err(Stop::OutOfMemory),
+        Ok(texts) => Ok(State::InText(head, blocks, items, texts)),
+    }
+}
+
+/// A marker may stand only where no item is open.
+fn at_marker(place: Place, next: State) -> Result<State, Stop>
+    ensures { Gives result (open_answer place next) }
+{
+    match place {
+        Place::Idle => Ok(next),
+        _ => Err(Stop::Refused(Reason::Unfinished)),
+    }
+}
+
+/// The items, and one more.
+fn with_item(
+    head: List<Bytes>,
+    blocks: List<Block>,
+    items: List<Item>,
+    name: Bytes,
+    op: Op,
+    values: List<Value>,
+) -> Result<State, Stop>
+    requires { IsItem (record { name = name; op = op; values = values }) }
+    ensures { Gives result (Ok (AtData head blocks (items ++ record { name = name; op = op; values = values } ∷ []) AtIdle)) }
+{
+    let mut items = items;
+    match items.push(Item { name, op, values }) {
+        Err(_) => Err(Stop::OutOfMemory),
+        Ok(()) => Ok(State::InData(head, blocks, items, Place::Idle)),
+    }
+}
+
+/// The end of a data line: an item that is closed joins the others.
+fn end_line(
+    head: List<Bytes>,
+    blocks: List<Block>,
+    items: List<Item>,
+    place: Place,
+) -> Result<State, Stop>
+    requires { IsClosedItem place }
+    ensures { Gives result (end_data head blocks items place) }
+{
+    match place {
+        Place::Named(_) => Err(Stop::Refused(Reason::NoAssign)),
+        Place::Closed(name, op, values) => with_item(
+            head,
+            blocks,
+            items,
+            name,
+            op,
+            values.into_list(),
+        ),
+        open => Ok(State::InData(head, blocks, items, open)),
+    }
+}
+
+/// A data line that is no marker.
+fn take_tokens(
+    alloc: Global,
+    head: List<Bytes>,
+    blocks: List<Block>,
+    items: List<Item>,
+    place: Place,
+    line: &[u8],
+) -> Result<State, Stop>
+    requires reached { IsReachedState (AtData head blocks items place) }
+    requires no_data { begins_data_line line.now ≡ false }
+    requires no_text { begins_text_line line.now ≡ false }
+    ensures { Gives result (taken_line (AtData head blocks items place) line.now) }
+{
+    if without_white(line).len() > 132 {
+        return Err(Stop::Refused(Reason::DataLineTooLong));
+    }
+    if has_bad_byte(line) {
+        return Err(Stop::Refused(Reason::BadByte));
+    }
+    match read_line(alloc, place, line) {
+        Err(stop) => Err(stop),
+        Ok(place) => end_line(head, blocks, items, place),
+    }
+}
+
+/// A line in data mode.
+fn take_data(
+    alloc: Global,
+    head: List<Bytes>,
+    blocks: List<Block>,
+    items: List<Item>,
+    place: Place,
+    line: &[u8],
+) -> Result<State, Stop>
+    requires reached { IsReachedState (AtData head blocks items place) }
+    ensures { Gives result (taken_line (AtData head blocks items place) line.now) }
+{
+    if begins_data(line) {
+        return at_marker(place, State::InData(head, blocks, items, Place::Idle));
+    }
+    if begins_text(line) {
+        return at_marker(
+            place,
+            State::InText(head, blocks, items, List::from_vec(Vec::new(alloc))),
+        );
+    }
+    take_tokens(alloc, head, blocks, items, place, line)
+}
+
+/// The line, behind what has been read.
+pub fn take_line(alloc: Global, state: State, line: &[u8]) -> Result<State, Stop>
+    requires reached { IsReachedState state }
+    ensures { Gives result (taken_line state line.now) }
+{
+    match state {
+        State::InHead(texts) => take_head(alloc, texts, line),
+        State::InData(head, blocks, items, place) => take_data(
+            alloc, head, blocks, items, place, line,
+        ),
+        State::InText(head, blocks, items, texts) => take_text(
+            alloc, head, blocks, items, texts, line,
+        ),
+    }
+}
