@@ -1,0 +1,51 @@
+ghost use Rattle.std.specs.Prelude.{◌≡◌, ◌++◌, OnOk, IfOk};
+ghost use Rattle.std.specs.List.{flat_map};
+ghost use Rattle.sk_grammar.specs.Canonical.{item_lines, block_lines, ended_by_line_feeds, canonical_text};
+
+use crate::items::{write_item, write_line};
+use sk_checks::NoMemory;
+use sk_grammar::{Block, Bytes, Doc, Item};
+use std::alloc::Global;
+
+fn write_lines(out: &mut Vec<u8>, lines: &[Bytes]) -> Result<(), NoMemory>
+    ensures { OnOk result (out.new.items ≡ out.old.items ++ ended_by_line_feeds lines.now) }
+{
+    for line in lines {
+        write_line(out, line.as_slice())?;
+    }
+    Ok(())
+}
+
+fn write_items(out: &mut Vec<u8>, items: &[Item]) -> Result<(), NoMemory>
+    ensures { OnOk result (out.new.items ≡ out.old.items ++ ended_by_line_feeds (flat_map item_lines items.now)) }
+{
+    for item in items {
+        write_item(out, item)?;
+    }
+    Ok(())
+}
+
+fn write_block(out: &mut Vec<u8>, block: &Block) -> Result<(), NoMemory>
+    ensures { OnOk result (out.new.items ≡ out.old.items ++ ended_by_line_feeds (block_lines block.now)) }
+{
+    write_line(out, b"\\begindata")?;
+    write_items(out, block.items.as_slice())?;
+    write_line(out, b"\\begintext")?;
+    write_lines(out, block.text.as_slice())?;
+    Ok(())
+}
+
+/// The canonical text of the document (NAIF Kernel Required Reading, "Text Kernel Specifications"): the lines of the
+/// head, and of each block `\begindata`, its items, `\begintext` and its text lines, each ended by a line feed. An
+/// item with one value stands on one line where that has at most 132 bytes; otherwise its values stand on lines of
+/// their own, three numbers a line or one other value.
+pub fn write_doc(alloc: Global, doc: &Doc) -> Result<Vec<u8>, NoMemory>
+    ensures { IfOk result (λ text. text.items ≡ canonical_text doc.now) }
+{
+    let mut out = Vec::new(alloc);
+    write_lines(&mut out, doc.head.as_slice())?;
+    for block in doc.blocks.as_slice() {
+        write_block(&mut out, block)?;
+    }
+    Ok(out)
+}
