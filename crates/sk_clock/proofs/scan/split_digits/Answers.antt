@@ -1,0 +1,11 @@
+use Rattle.std.proofs.Common.{arith}
+use Rattle.std.specs.Char.{is_ascii_digit}
+use Rattle.std.proofs.lemmas.List.Sums.{prefix_len-le-length}
+use Rattle.sk_clock.proofs.ScanLemmas.{all_front}
+use Rattle.sk_clock.proofs.scan.split_digits.Goals as goal
+
+pub split_at-requires : goal.split_at-requires
+split_at-requires c = omega (arith, c.digit_count-count.ensures, prefix_len-le-length is_ascii_digit c.args.bytes.now)
+
+pub returns-clause-all : goal.returns-clause-all
+returns-clause-all c = rw (c.split_at.ensures.front, c.digit_count-count.ensures) (all_front is_ascii_digit c.args.bytes.now)

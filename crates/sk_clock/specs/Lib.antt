@@ -1,0 +1,10 @@
+pub mod Row
+pub mod Clock
+pub mod ClockText
+pub mod Kernel
+pub mod Kept
+pub mod Numbers
+pub mod Stages
+pub mod Scan
+pub mod Values
+pub mod Ticks

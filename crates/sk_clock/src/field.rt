@@ -1,0 +1,13 @@
+ghost use Rattle.std.specs.Prelude.{◌^◌, ◌-◌, ◌≤◌};
+ghost use Rattle.std.specs.Int.{IsInRange};
+
+/// A field of a clock: its modulus, its least value, and the ticks that one of it counts.
+#[derive(Clone, Copy, Debug)]
+pub struct Field {
+    pub modulus: u64,
+    pub offset: u64,
+    pub unit: u64,
+    ghost modulus_fits: { IsInRange 1 (2 ^ 53 - 1) modulus },
+    ghost offset_fits: { offset ≤ 2 ^ 32 },
+    ghost unit_fits: { IsInRange 1 (2 ^ 32) unit },
+}
