@@ -1,0 +1,4 @@
+pub mod Observation
+pub mod Words
+pub mod File
+pub mod Reading
