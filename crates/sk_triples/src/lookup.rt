@@ -1,0 +1,34 @@
+//! The triple of a tick.
+
+ghost use Rattle.std.specs.Prelude.{◌≡◌, ◌≤◌, ◌↔◌, ◌+◌, ℕ, List, Some, length, option_map};
+ghost use Rattle.sk_triples.specs.Terms.{TripleView};
+ghost use Rattle.sk_triples.specs.Line.{covering, begun_at};
+ghost use Rattle.sk_triples.specs.Kernel.{AreTriples, IsCovering, Rise};
+
+use crate::triple::Triple;
+
+/// How many triples have begun at a tick.
+pub fn begun(triples: &[Triple], tick: u64) -> usize
+    requires { Rise triples.now }
+    ensures number { result ≡ begun_at triples.now tick }
+    ensures few { result ≤ length triples.now }
+{
+    triples.partition_point(|triple| triple.ticks <= tick)
+}
+
+/// The triple that covers a tick.
+pub fn covering_triple(triples: &[Triple], tick: u64) -> Option<Triple>
+    requires { Rise triples.now }
+    ensures { result ≡ option_map (λ found. found.1) (covering triples.now tick) }
+{
+    match begun(triples, tick) {
+        0 => None,
+        number => Some(triples[number - 1]),
+    }
+}
+
+/// The triple that covers a tick is the last one whose ticks are not greater.
+pub fn covering_is_last()
+    ensures { (total tick place : ℕ) (triples : List TripleView) (triple : TripleView) → AreTriples total triples
+        → (covering triples tick ≡ Some (place + 1, triple)) ↔ IsCovering triples tick place triple }
+{}
