@@ -1,0 +1,5 @@
+pub mod Joined
+pub mod Ranges
+pub mod RowLines
+pub mod Lasts
+pub mod MarkLemmas

@@ -1,0 +1,4 @@
+pub mod Report
+pub mod Line
+pub mod Marks
+pub mod Ends

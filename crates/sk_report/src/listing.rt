@@ -1,0 +1,141 @@
+//! The lines of the table.
+
+ghost use Rattle.std.specs.Prelude.{◌≡◌, ◌<◌, ℕ, Option, [], ◌∷◌, ◌++◌, IfOk, IfSome, OnOk, OnErr, length, option_map, codes, decimal};
+ghost use Rattle.sk_checks.specs.Checks.{JudgesUnless, carried, FirstRefuses};
+ghost use Rattle.sk_triples.specs.Kernel.{AreOf, range_checks};
+ghost use Rattle.sk_triples.specs.Table.{ChainView, kernel_view, row_lines_from};
+ghost use Rattle.sk_triples.specs.Terms.{sights};
+ghost use Rattle.sk_fit.specs.Given.{chain_view};
+ghost use Rattle.sk_report.specs.Marks.{AreOver, Tells};
+ghost use Rattle.sk_report.specs.Line.{fields_of};
+ghost use Rattle.sk_report.specs.Report.{IsChainOver, table_checks, table_of};
+
+use crate::fault::ReportFault;
+use crate::line::line_of;
+use crate::marking::{marks_of, old_marks};
+use crate::marks::Marks;
+use crate::times::time_of;
+use crate::words::{end_at, kind_at};
+use sk_checks::NoMemory;
+use sk_clock::Clock;
+use sk_decimal::Line;
+use sk_fit::Chain;
+use sk_grammar::{Bytes, List};
+use sk_obs::Observation;
+use sk_triples::Triples;
+use std::alloc::Global;
+
+// The line with the number of observations.
+fn head_line(alloc: Global, count: usize) -> Result<Bytes, NoMemory>
+    ensures { IfOk result (λ line. line ≡ codes "residuals;" ++ decimal count) }
+{
+    let mut line = Line::new();
+    line.push(b"residuals;");
+    line.push_number(count as u128);
+    let bytes = Vec::from_slice(alloc, line.as_slice())?;
+    Ok(Bytes::from_vec(bytes))
+}
+
+// The line of an observation of this kind and end.
+fn row_line(
+    alloc: Global,
+    triples: &Triples,
+    clock: &Clock,
+    observation: &Observation,
+    kind: &str,
+    ended: &[u8],
+) -> Result<Bytes, ReportFault>
+    requires { AreOf clock.now triples.now }
+    ensures { JudgesUnless ReportFault.NoMemory
+        (carried (FirstRefuses (range_checks triples.now observation.now.tick)) (ReportFault.Range observation.now.number) ∷ [])
+        (λ line. line ≡ fields_of (kernel_view 12 clock.now triples.now.triples) observation.now kind.now ended.now) result }
+{
+    let tick = observation.tick;
+    let timed = match time_of(triples, clock, tick) {
+        Ok(timed) => timed,
+        Err(fault) => return Err(ReportFault::Range(observation.number, fault)),
+    };
+    let Ok(text) = clock.text_of(alloc, tick) else {
+        return Err(ReportFault::NoMemory);
+    };
+    let Ok(line) = line_of(alloc, observation, text.as_str(), timed, kind, ended) else {
+        return Err(ReportFault::NoMemory);
+    };
+    Ok(line)
+}
+
+// Appends the lines of the observations.
+fn push_rows(
+    lines: &mut List<Bytes>,
+    alloc: Global,
+    triples: &Triples,
+    clock: &Clock,
+    observations: &[Observation],
+    marks: &Marks,
+) -> Result<(), ReportFault>
+    requires triples { AreOf clock.now triples.now }
+    requires marks { AreOver (length observations.now) marks.now }
+    ensures { (chain : Option ChainView) → ((place : ℕ) → place < length observations.now → Tells observations.now chain marks.now place)
+        → JudgesUnless ReportFault.NoMemory (table_checks triples.now observations.now)
+        (λ _. lines.new ≡ lines.old ++ row_lines_from (kernel_view 12 clock.now triples.now.triples) chain observations.now 0 observations.now) result }
+{
+    for (place, observation) in observations.iter().enumerate() {
+        let kind = kind_at(marks, place);
+        let ended = end_at(observations, marks, place);
+        match row_line(alloc, triples, clock, observation, kind, ended.as_slice()) {
+            Err(fault) => return Err(fault),
+            Ok(line) => {
+                let Ok(()) = lines.push(line) else {
+                    return Err(ReportFault::NoMemory);
+                };
+            }
+        }
+    }
+    Ok(())
+}
+
+// The marks of the chain, or of observations that are all old.
+fn marks_for(
+    alloc: Global,
+    observations: &[Observation],
+    chain: Option<&Chain>,
+) -> Result<Marks, NoMemory>
+    requires { IfSome chain (λ c. IsChainOver (length observations.now) c.now) }
+    ensures over { IfOk result (AreOver (length observations.now)) }
+    ensures tells { IfOk result (λ m. (place : ℕ) → place < length observations.now
+        → Tells observations.now (option_map (chain_view (sights observations.now)) (option_map (λ c. c.now) chain.entry)) m place) }
+{
+    match chain {
+        None => old_marks(alloc, observations.len()),
+        Some(chain) => marks_of(alloc, chain, observations),
+    }
+}
+
+/// The lines of the table: the number of observations, and a line for each. Without a chain all are old.
+pub fn table(
+    alloc: Global,
+    triples: &Triples,
+    clock: &Clock,
+    observations: &[Observation],
+    chain: Option<&Chain>,
+) -> Result<List<Bytes>, ReportFault>
+    requires triples { AreOf clock.now triples.now }
+    requires chain { IfSome chain (λ c. IsChainOver (length observations.now) c.now) }
+    ensures { JudgesUnless ReportFault.NoMemory (table_checks triples.now observations.now)
+        (λ lines. lines ≡ table_of clock.now triples.now observations.now (option_map (λ c. c.now) chain.entry)) result }
+{
+    let Ok(marks) = marks_for(alloc, observations, chain) else {
+        return Err(ReportFault::NoMemory);
+    };
+    let Ok(head) = head_line(alloc, observations.len()) else {
+        return Err(ReportFault::NoMemory);
+    };
+    let mut lines = List::from_vec(Vec::new(alloc));
+    let Ok(()) = lines.push(head) else {
+        return Err(ReportFault::NoMemory);
+    };
+    match push_rows(&mut lines, alloc, triples, clock, observations, &marks) {
+        Ok(()) => Ok(lines),
+        Err(fault) => Err(fault),
+    }
+}
