@@ -1,0 +1,6 @@
+//! The tick of a time.
+#![tactic(auto)]
+
+mod fault;
+
+pub use fault::InverseFault;
