@@ -1,0 +1,6 @@
+//! How many lines any fit of the observations needs.
+#![tactic(auto)]
+
+mod stretch;
+
+pub use stretch::{Stop, Stretch};
