@@ -1,0 +1,7 @@
+pub mod Moves
+pub mod Determined
+pub mod Sizes
+pub mod Numbers
+pub mod Tails
+pub mod Refusals
+pub mod Behind

@@ -1,0 +1,21 @@
+-- What follows each stage of `residuals`.
+use Rattle.std.proofs.Common.{ℕ, List}
+use Rattle.sk_grammar.specs.Canonical.{ended_by_line_feeds}
+use Rattle.sk_leap.specs.declared.pair.LeapPair.{LeapPair}
+use Rattle.sk_clock.specs.Row.{RowView}
+use Rattle.station.specs.Stage.{Stage, ◌>>=◌, gives}
+use Rattle.station.specs.Request.{Options}
+use Rattle.station.specs.Files.{Source, KernelRead, kernel_file, observation_file}
+use Rattle.station.specs.Outcome.{tabled}
+
+abbrev pub after_lines : List (List ℕ) → Stage (List ℕ)
+after_lines lines = gives (ended_by_line_feeds lines)
+
+abbrev pub after_observations : KernelRead → List RowView → Stage (List ℕ)
+after_observations kernel rows = tabled kernel rows >>= after_lines
+
+abbrev pub after_kernel : Source → Options → List LeapPair → KernelRead → Stage (List ℕ)
+after_kernel source options leap kernel = observation_file source options kernel.clock leap >>= after_observations kernel
+
+abbrev pub after_leap : Source → Options → List LeapPair → Stage (List ℕ)
+after_leap source options leap = kernel_file source options >>= after_kernel source options leap

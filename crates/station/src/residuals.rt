@@ -1,0 +1,75 @@
+//! The table of observations by a kernel.
+ghost use Rattle.std.specs.Prelude.{◌≡◌, List, ℕ, IfOk};
+ghost use Rattle.sk_edge.specs.Causes.{Rose, NoneFalls};
+ghost use Rattle.sk_edge.specs.Transfer.{SameFiles};
+ghost use Rattle.sk_grammar.specs.Canonical.{ended_by_line_feeds};
+ghost use Rattle.station.specs.Stage.{MayAnswer};
+ghost use Rattle.station.specs.Asked.{options_in, NeedsNumber};
+ghost use Rattle.station.specs.Files.{Source};
+ghost use Rattle.station.specs.Outcome.{residuals as residuals_stage, tabled as tabled_stage};
+
+use crate::files::{kernel_file, leap_file, observation_file};
+use crate::kernel::Kernel;
+use crate::request::Request;
+use crate::status::{ObsStop, Status};
+use sk_checks::NoMemory;
+use sk_edge::Depot;
+use sk_grammar::{Bytes, List};
+use sk_obs::Observation;
+use sk_report::{ReportFault, table};
+use std::alloc::Global;
+
+/// The lines of the table by the kernel's own triples.
+fn plain_table(
+    alloc: Global,
+    kernel: &Kernel,
+    observations: &[Observation],
+) -> Result<List<Bytes>, Status>
+    ensures { MayAnswer (λ l. l) (tabled_stage kernel.now observations.now) result }
+{
+    match table(alloc, &kernel.triples, &kernel.clock, observations, None) {
+        Ok(lines) => Ok(lines),
+        Err(ReportFault::NoMemory) => Err(Status::NoMemory),
+        Err(ReportFault::Range(number, fault)) => {
+            Err(Status::ObservationRefused(ObsStop::Range(number, fault)))
+        }
+    }
+}
+
+/// The lines, each ended by a line feed.
+pub fn ended_lines(alloc: Global, lines: &[Bytes]) -> Result<Vec<u8>, NoMemory>
+    ensures { IfOk result (λ v. v.items ≡ ended_by_line_feeds lines.now) }
+{
+    let mut text = Vec::new(alloc);
+    for line in lines {
+        text.extend_from_slice(line.as_slice())?;
+        text.push(b'\n')?;
+    }
+    Ok(text)
+}
+
+/// What `residuals` writes.
+pub fn residuals<D: Depot>(
+    alloc: Global,
+    depot: &mut D,
+    request: &Request,
+) -> Result<Vec<u8>, Status>
+    requires { NeedsNumber request.now.command }
+    ensures same_files { SameFiles (D.holds depot.old) (D.holds depot.new) }
+    ensures counts { NoneFalls (D.faults depot.old) (D.faults depot.new) }
+    ensures stage { let source : Source = record {
+      holds = D.holds depot.old;
+      given = D.given depot.new;
+      rose = λ name. Rose (D.faults depot.old name) (D.faults depot.new name);
+    } in
+        MayAnswer (λ v. v.items) (residuals_stage source (options_in request.now)) result }
+{
+    let leap = leap_file(alloc, depot, request)?;
+    let kernel = kernel_file(alloc, depot, request)?;
+    let observations = observation_file(alloc, depot, request, &kernel, &leap)?;
+    let lines = plain_table(alloc, &kernel, observations.as_slice())?;
+    let Ok(text) = ended_lines(alloc, lines.as_slice()) else {
+        return Err(Status::NoMemory);
+    };
+    Ok(text)
+}

@@ -1,0 +1,265 @@
+use super::*;
+use sk_edge::{MemoryDepot, MemorySink};
+use std::alloc::{AllocError, Global};
+use std::test::Fail;
+
+/// A clock with one triple: tick 0 at time 0, 256 ticks and one second a count. Its text is canonical.
+const KERNEL: &str = "KPL/SCLK\n\\begindata\nSCLK_KERNEL_ID = @2024-01-01\nSCLK_DATA_TYPE_99 = 1\n";
+
+const CLOCK: &str =
+    "SCLK01_TIME_SYSTEM_99 = 2\nSCLK01_N_FIELDS_99 = 2\nSCLK01_MODULI_99 = (\n4294967296 256\n)\n";
+
+const SHAPE: &str = "SCLK01_OFFSETS_99 = (\n0 0\n)\nSCLK01_OUTPUT_DELIM_99 = 2\n";
+
+const SPAN: &str = "SCLK_PARTITION_START_99 = 0\nSCLK_PARTITION_END_99 = 1099511627775\n";
+
+const TRIPLE: &str = "SCLK01_COEFFICIENTS_99 = (\n0 0 1\n)\n\\begintext\n";
+
+const LATER: &str = "SCLK01_COEFFICIENTS_99 = (\n256 1 1\n)\n\\begintext\n";
+
+const SYSTEM: &str = "SCLK01_N_FIELDS_99 = 2\nSCLK01_MODULI_99 = (\n4294967296 256\n)\n";
+
+const HEADER: &str = "id,clock,time,delay\n";
+
+const ROW: &str = "id,clock,time,delay\na,tick:256000,tdt:1000,0\n";
+
+const TABLE: &str =
+    "residuals;1\na;1/0000001000:000;1000.000000000000;1000.000000000000;0;1;old;\n";
+
+const WORDS: [&str; 4] = ["residuals", "--kernel=k", "--obs=o", "--sc=99"];
+
+fn texts(alloc: Global, words: &[&str]) -> Result<Vec<String>, AllocError> {
+    let mut texts = Vec::new(alloc);
+    for word in words {
+        texts.push(String::from_str(alloc, word)?)?;
+    }
+    Ok(texts)
+}
+
+/// A kernel of these parts and a file of observations.
+fn files(
+    alloc: Global,
+    parts: &[&str],
+    observations: &str,
+) -> Result<Vec<(String, Vec<u8>)>, AllocError> {
+    let mut kernel = Vec::new(alloc);
+    for part in parts {
+        kernel.extend_from_slice(part.as_bytes())?;
+    }
+    let mut files = Vec::new(alloc);
+    files.push((String::from_str(alloc, "k")?, kernel))?;
+    files.push((
+        String::from_str(alloc, "o")?,
+        observations.as_bytes().to_vec(alloc)?,
+    ))?;
+    Ok(files)
+}
+
+/// An output with room for 300 bytes, which takes ten bytes a write.
+fn output(alloc: Global, failing: Vec<u64>) -> Result<MemorySink, AllocError> {
+    Ok(MemorySink::new(vec![in alloc; 10]?, failing, vec![in alloc; 0; 300]?))
+}
+
+#[test]
+fn words_are_refused_in_their_order(rt: HostRuntime) -> Result<(), Fail> {
+    let alloc = rt.alloc();
+    let table: [(&[&str], &str); 7] = [
+        (&[], "refused;2;NotTaken\n"),
+        (&["frob"], "refused;2;UnknownCommand\n"),
+        (
+            &["residuals", "--kernel", "k"],
+            "refused;2;NeedOption;obs\n",
+        ),
+        (
+            &["residuals", "--kernel=k", "--obs=o", "--sc=0"],
+            "refused;2;OutOfRange;sc\n",
+        ),
+        (
+            &[
+                "residuals",
+                "--kernel=k",
+                "--obs=o",
+                "--sc=99",
+                "--band-ppm=0",
+            ],
+            "refused;2;OutOfRange;band-ppm\n",
+        ),
+        (
+            &["residuals", "--kernel=k", "--kernel=k"],
+            "refused;2;NotTaken\n",
+        ),
+        (&["--help"], "refused;2;NotTaken\n"),
+    ];
+    for (words, line) in table {
+        let words = texts(alloc, words)?;
+        let mut depot = MemoryDepot::new(Vec::new(alloc), Vec::new(alloc), Vec::new(alloc));
+        let mut out = output(alloc, Vec::new(alloc))?;
+        let mut notes = output(alloc, Vec::new(alloc))?;
+        let status = run(alloc, &words, &mut depot, &mut out, &mut notes);
+        assert_eq!(rt; status.code(), 2, "{line}");
+        assert_eq!(rt; notes.written(), line.as_bytes());
+        assert!(rt; out.written().is_empty(), "{line}");
+    }
+    Ok(())
+}
+
+#[test]
+fn residuals_of_a_plain_kernel(rt: HostRuntime) -> Result<(), Fail> {
+    let alloc = rt.alloc();
+    let plain: &[&str] = &[KERNEL, CLOCK, SHAPE, SPAN, TRIPLE];
+    let table: [(&[&str], &str, u8, &str, &str); 6] = [
+        (plain, ROW, 0, TABLE, ""),
+        (plain, HEADER, 0, "residuals;0\n", ""),
+        (
+            &[KERNEL, CLOCK, SHAPE, SPAN, LATER],
+            "id,clock,time,delay\na,tick:0,tdt:1,0\n",
+            5,
+            "",
+            "refused;5;Range;2;BeforeFirst\n",
+        ),
+        (
+            &[KERNEL, SYSTEM, SHAPE, SPAN, TRIPLE],
+            HEADER,
+            4,
+            "",
+            "refused;4;Clock;Barycentric\n",
+        ),
+        (plain, "", 5, "", "refused;5;Header\n"),
+        (
+            plain,
+            "id,clock,time,delay\na,tick:5,tdt:1,0\nb,tick:5,tdt:1,0\n",
+            5,
+            "",
+            "refused;5;Record;3;OutOfOrder\n",
+        ),
+    ];
+    for (parts, observations, code, text, line) in table {
+        let words = texts(alloc, &WORDS)?;
+        let pieces = vec![in alloc; 1]?;
+        let mut depot = MemoryDepot::new(
+            files(alloc, parts, observations)?,
+            pieces,
+            Vec::new(alloc),
+        );
+        let mut out = output(alloc, Vec::new(alloc))?;
+        let mut notes = output(alloc, Vec::new(alloc))?;
+        let status = run(alloc, &words, &mut depot, &mut out, &mut notes);
+        assert_eq!(rt; notes.written(), line.as_bytes());
+        assert_eq!(rt; out.written(), text.as_bytes());
+        assert_eq!(rt; status.code(), code);
+    }
+    Ok(())
+}
+
+#[test]
+fn each_call_of_the_depot_fails(rt: HostRuntime) -> Result<(), Fail> {
+    let alloc = rt.alloc();
+    for call in 1..8u64 {
+        let words = texts(alloc, &WORDS)?;
+        let kernel: &[&str] = &[KERNEL, CLOCK, SHAPE, SPAN, TRIPLE];
+        let failing = vec![in alloc; call]?;
+        let mut depot = MemoryDepot::new(files(alloc, kernel, ROW)?, Vec::new(alloc), failing);
+        let mut out = output(alloc, Vec::new(alloc))?;
+        let mut notes = output(alloc, Vec::new(alloc))?;
+        let status = run(alloc, &words, &mut depot, &mut out, &mut notes);
+        let (code, line) = match call {
+            1..=3 => (7, "refused;7;Kernel\n"),
+            4..=6 => (7, "refused;7;Observations\n"),
+            _ => (0, ""),
+        };
+        assert_eq!(rt; status.code(), code, "at {call}");
+        assert_eq!(rt; notes.written(), line.as_bytes());
+        assert_eq!(rt; out.written().is_empty(), code == 7, "at {call}");
+    }
+    Ok(())
+}
+
+#[test]
+fn each_call_of_the_output_fails(rt: HostRuntime) -> Result<(), Fail> {
+    let alloc = rt.alloc();
+    for call in 1..8usize {
+        let words = texts(alloc, &WORDS)?;
+        let kernel: &[&str] = &[KERNEL, CLOCK, SHAPE, SPAN, TRIPLE];
+        let held = files(alloc, kernel, ROW)?;
+        let mut depot = MemoryDepot::new(held, Vec::new(alloc), Vec::new(alloc));
+        let mut out = output(alloc, vec![in alloc; call as u64]?)?;
+        let mut notes = output(alloc, vec![in alloc; 2]?)?;
+        let status = run(alloc, &words, &mut depot, &mut out, &mut notes);
+        assert_eq!(rt; status.code(), 8, "at {call}");
+        assert_eq!(rt; out.written(), &TABLE.as_bytes()[..10 * (call - 1)]);
+        assert_eq!(rt; notes.written(), b"refused;8;".as_slice());
+    }
+    Ok(())
+}
+
+#[test]
+fn a_kernel_of_one_byte_too_many(rt: HostRuntime) -> Result<(), Fail> {
+    let alloc = rt.alloc();
+    let words = texts(alloc, &WORDS)?;
+    let mut held = Vec::new(alloc);
+    held.push((
+        String::from_str(alloc, "k")?,
+        vec![in alloc; 10; 16_777_217]?,
+    ))?;
+    let mut depot = MemoryDepot::new(held, Vec::new(alloc), Vec::new(alloc));
+    let mut out = output(alloc, Vec::new(alloc))?;
+    let mut notes = output(alloc, Vec::new(alloc))?;
+    let status = run(alloc, &words, &mut depot, &mut out, &mut notes);
+    assert_eq!(rt; status.code(), 4);
+    assert_eq!(rt; notes.written(), b"refused;4;TooLong\n".as_slice());
+    Ok(())
+}
+
+#[test]
+fn files_and_streams_of_the_host(rt: HostRuntime) -> Result<(), Fail> {
+    let alloc = rt.alloc();
+    let words = texts(
+        alloc,
+        &["residuals", "--kernel=nowhere", "--obs=o", "--sc=99"],
+    )?;
+    let mut depot = FileDepot::new(&rt);
+    let mut out = StreamSink::new(std::io::writer(&rt));
+    let mut notes = output(alloc, Vec::new(alloc))?;
+    let status = run(alloc, &words, &mut depot, &mut out, &mut notes);
+    assert_eq!(rt; status.code(), 7);
+    assert_eq!(rt; notes.written(), b"refused;7;Kernel\n".as_slice());
+    Ok(())
+}
+
+#[test]
+fn normal_of_a_kernel(rt: HostRuntime) -> Result<(), Fail> {
+    let alloc = rt.alloc();
+    let table: [(&str, u8, &str, &str); 4] = [
+        (
+            "\\begindata\nA = 'don''t'\nX += 3\nY = 1.657D-3\n",
+            0,
+            "\\begindata\nA = 'don''t'\nX += 3\nY = 0.001657\n\\begintext\n",
+            "",
+        ),
+        (
+            "\\begindata\nX = ( 1 2\n",
+            4,
+            "",
+            "refused;4;Grammar;2;Unfinished\n",
+        ),
+        (
+            "\\begindata\nX = 170141183460469231731687303715884105728\n",
+            4,
+            "",
+            "refused;4;Grammar;2;NumberTooWide\n",
+        ),
+        ("", 0, "", ""),
+    ];
+    for (kernel, code, text, line) in table {
+        let words = texts(alloc, &["normal", "--kernel=k"])?;
+        let pieces = vec![in alloc; 1]?;
+        let mut depot = MemoryDepot::new(files(alloc, &[kernel], HEADER)?, pieces, Vec::new(alloc));
+        let mut out = output(alloc, Vec::new(alloc))?;
+        let mut notes = output(alloc, Vec::new(alloc))?;
+        let status = run(alloc, &words, &mut depot, &mut out, &mut notes);
+        assert_eq!(rt; notes.written(), line.as_bytes());
+        assert_eq!(rt; out.written(), text.as_bytes());
+        assert_eq!(rt; status.code(), code);
+    }
+    Ok(())
+}
