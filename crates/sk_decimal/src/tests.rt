@@ -1,3 +1,5 @@
+ghost use Rattle.std.specs.Prelude.{◌≤◌};
+
 use crate::{Decimal, Fixed, NumberFault, ceil_div, floor_div};
 use std::alloc::Global;
 use std::test::Fail;
@@ -94,31 +96,121 @@ fn reads_long_numbers(rt: HostRuntime) -> Result<(), Fail> {
     Ok(())
 }
 
+// The units of the number with so many decimals, or the fault.
+fn units<const S: u32>(spelling: &str) -> Result<Option<i128>, NumberFault>
+    requires { S ≤ 18 }
+{
+    let decimal = Decimal::read(spelling.as_bytes())?;
+    match decimal.to_fixed::<S>() {
+        Some(fixed) => Ok(Some(fixed.units)),
+        None => Ok(None),
+    }
+}
+
 #[test]
-fn keeps_fixed_numbers(rt: HostRuntime) -> Result<(), Fail> {
-    let Ok(decimal) = Decimal::read(b"-1.25") else {
-        return Err(Fail::from("a number"));
-    };
-    assert_eq!(rt; decimal.scale(), 2);
-    assert_eq!(rt; decimal.to_fixed::<1>(), None);
-    assert_eq!(rt; decimal.to_fixed::<2>(), Some(Fixed { units: -125 }));
+fn numbers_have_units(rt: HostRuntime) {
+    let whole = [
+        ("0", Some(0)),
+        ("-7", Some(-7)),
+        ("7.0", Some(7)),
+        ("7.5", None),
+        ("170141183460469231731687303715884105727", Some(i128::MAX)),
+        ("-170141183460469231731687303715884105727", Some(-i128::MAX)),
+    ];
+    for (spelling, want) in whole {
+        assert_eq!(rt; units::<0>(spelling), Ok(want), "at {spelling}");
+    }
+    let tenths = [
+        ("-0.5", Some(-5)),
+        ("0.05", None),
+        ("17014118346046923173168730371588410572.7", Some(i128::MAX)),
+        (
+            "-17014118346046923173168730371588410572.7",
+            Some(-i128::MAX),
+        ),
+        ("17014118346046923173168730371588410573", None),
+        ("-17014118346046923173168730371588410573", None),
+    ];
+    for (spelling, want) in tenths {
+        assert_eq!(rt; units::<1>(spelling), Ok(want), "at {spelling}");
+    }
+    let smallest = [
+        ("1E-18", Some(1)),
+        ("1E-19", None),
+        ("-1.25", Some(-1_250_000_000_000_000_000)),
+        ("170141183460469231731.687303715884105727", Some(i128::MAX)),
+        ("170141183460469231732", None),
+        ("-170141183460469231732", None),
+    ];
+    for (spelling, want) in smallest {
+        assert_eq!(rt; units::<18>(spelling), Ok(want), "at {spelling}");
+    }
+}
+
+#[test]
+fn decimals_are_counted(rt: HostRuntime) {
+    let table = [
+        ("0E-38", 0),
+        ("-100", 0),
+        ("1.250", 2),
+        ("1E-38", 38),
+        ("10E-38", 37),
+    ];
+    for (spelling, want) in table {
+        match Decimal::read(spelling.as_bytes()) {
+            Ok(decimal) => assert_eq!(rt; decimal.scale(), want, "at {spelling}"),
+            Err(_) => assert!(rt; false, "at {spelling}"),
+        }
+    }
+}
+
+#[test]
+fn fixed_numbers_are_widened(rt: HostRuntime) {
+    let table = [
+        (0, Some(0)),
+        (-5, Some(-50)),
+        (
+            17014118346046923173168730371588410572,
+            Some(170141183460469231731687303715884105720),
+        ),
+        (
+            -17014118346046923173168730371588410572,
+            Some(-170141183460469231731687303715884105720),
+        ),
+        (17014118346046923173168730371588410573, None),
+        (-17014118346046923173168730371588410573, None),
+        (i128::MIN, None),
+    ];
+    for (units, want) in table {
+        let wide = Fixed::<9> { units }.widen::<10>();
+        assert_eq!(rt; wide, want.map(|units| Fixed { units }), "at {units}");
+    }
+    let least = Fixed::<18> { units: i128::MIN };
+    assert_eq!(rt; least.widen::<18>(), Some(least));
     assert_eq!(rt;
-        decimal.to_fixed::<18>(),
+        Fixed::<0> { units: -3 }.widen::<18>(),
         Some(Fixed {
-            units: -1_250_000_000_000_000_000
+            units: -3_000_000_000_000_000_000
         })
     );
-    let fixed = Fixed::<9> {
-        units: -1_250_000_000,
-    };
-    assert_eq!(rt; fixed.to_decimal(), decimal);
-    assert_eq!(rt;
-        fixed.widen::<12>(),
-        Some(Fixed {
-            units: -1_250_000_000_000
-        })
-    );
-    assert_eq!(rt; Fixed::<0> { units: i128::MAX }.widen::<1>(), None);
+}
+
+#[test]
+fn fixed_numbers_are_decimals(rt: HostRuntime) -> Result<(), Fail> {
+    let table = [
+        (0, "0"),
+        (-1_250_000_000_000_000_000, "-1.25"),
+        (30_000_000_000_000_000_000, "30"),
+        (1, "0.000000000000000001"),
+        (i128::MAX, "170141183460469231731.687303715884105727"),
+        (-i128::MAX, "-170141183460469231731.687303715884105727"),
+    ];
+    for (units, want) in table {
+        assert!(rt; units > i128::MIN);
+        let mut out = Vec::new(rt.alloc());
+        Fixed::<18> { units }.to_decimal().print(&mut out)?;
+        assert_eq!(rt; out.as_slice(), want.as_bytes());
+    }
     Ok(())
 }
 
