@@ -1,8 +1,9 @@
-ghost use Rattle.std.specs.Prelude.{◌≤◌};
+ghost use Rattle.std.specs.Prelude.{◌<◌, ◌≤◌};
 
 use crate::{AnyCuc, Cuc, CucEpoch, CucFault};
 use sk_decimal::Fixed;
 use sk_octets::WrongLength;
+use std::process::Abort;
 use std::test::Fail;
 
 // The two numbers of the field, where writing them gives its bytes.
@@ -79,6 +80,15 @@ fn codes_are_read_and_written(rt: HostRuntime) -> Result<(), Fail> {
             (4, 2),
             (0x4f004ac0, 0x1),
             Some(0x3),
+            Some(Fixed {
+                units: 32184015258789,
+            }),
+        ),
+        (
+            b"\x9e\x00\x4f\x00\x4a\xc0\x00\x01".as_slice(),
+            (4, 2),
+            (0x4f004ac0, 0x1),
+            Some(0x0),
             Some(Fixed {
                 units: 32184015258789,
             }),
@@ -177,6 +187,8 @@ fn bytes_are_refused_in_order(rt: HostRuntime) {
         (b"\x9e".as_slice(), CucFault::Length),
         (b"\x9e\x00".as_slice(), CucFault::Length),
         (b"\x1e\x00\x00\x00\x00\x00".as_slice(), CucFault::Length),
+        (b"\x1e\x00\x00".as_slice(), CucFault::Length),
+        (b"\x9e\x00\x00\x00\x00\x00\x00".as_slice(), CucFault::Length),
         (
             b"\x1e\x00\x00\x00\x00\x00\x00\x00".as_slice(),
             CucFault::Length,
@@ -185,4 +197,115 @@ fn bytes_are_refused_in_order(rt: HostRuntime) {
     for (bytes, fault) in table {
         assert_eq!(rt; AnyCuc::read(bytes).err(), Some(fault));
     }
+}
+
+// The P-field is taken before a T-field of these widths, and before no shorter or longer one.
+fn expect_code(rt: &impl Abort, head: &[u8], epoch: u8, basic: u8, fraction: u8) {
+    let start = head.len();
+    assert!(rt; 1 <= start && start <= 2);
+    assert!(rt; basic <= 7);
+    assert!(rt; fraction <= 6);
+    let mut bytes = [0x5au8; 16];
+    bytes[..start].copy_from_slice(head);
+    let end = start + usize::from(basic) + usize::from(fraction);
+    let Ok(code) = AnyCuc::read(&bytes[..end]) else {
+        assert!(rt; false, "refused {head:?}");
+        return;
+    };
+    assert_eq!(rt; code.basic(), u32::from(basic), "at {head:?}");
+    assert_eq!(rt; code.fraction(), u32::from(fraction), "at {head:?}");
+    assert_eq!(rt; code.epoch() == CucEpoch::Tai, epoch == 1, "at {head:?}");
+    let mut buf = [0u8; 16];
+    assert_eq!(rt; code.write_into(&mut buf), Ok(end), "at {head:?}");
+    assert_eq!(rt; &buf[..end], &bytes[..end], "at {head:?}");
+    assert_eq!(rt;
+        AnyCuc::read(&bytes[..end - 1]).err(),
+        Some(CucFault::Length),
+        "at {head:?}"
+    );
+    assert_eq!(rt;
+        AnyCuc::read(&bytes[..end + 1]).err(),
+        Some(CucFault::Length),
+        "at {head:?}"
+    );
+}
+
+fn expect_fault(rt: &impl Abort, head: &[u8], fault: CucFault) {
+    assert_eq!(rt; AnyCuc::read(head).err(), Some(fault), "at {head:?}");
+}
+
+fn is_epoch(epoch: u8) -> bool {
+    epoch == 1 || epoch == 2
+}
+
+// Bits 1 to 3 of the octet, bits 4 and 5, and bits 6 and 7.
+fn parts_of_first(number: u8) -> (u8, u8, u8)
+    ensures epoch { result.0 ≤ 7 }
+    ensures basic { result.1 ≤ 3 }
+    ensures fraction { result.2 ≤ 3 }
+{
+    (number / 16 % 8, number / 4 % 4, number % 4)
+}
+
+#[test]
+fn each_octet_alone(rt: HostRuntime) {
+    let mut taken: u32 = 0;
+    for number in 0..128u8 {
+        let (epoch, basic, fraction) = parts_of_first(number);
+        if is_epoch(epoch) {
+            expect_code(&rt, &[number], epoch, basic + 1, fraction);
+            expect_fault(&rt, &[number + 128], CucFault::Length);
+            taken = taken.saturating_add(1);
+        } else {
+            expect_fault(&rt, &[number], CucFault::NotCuc);
+            expect_fault(&rt, &[number + 128], CucFault::NotCuc);
+        }
+    }
+    assert_eq!(rt; taken, 32);
+}
+
+// The octet before a second one, whose bit 0, bits 1 and 2, and bits 3 to 5 are these. Whether it is taken.
+fn expect_pair(rt: &impl Abort, first: u8, second: u8) -> bool
+    requires { first < 128 }
+{
+    let (epoch, basic, fraction) = parts_of_first(first);
+    let head = [first + 128, second];
+    let basic = basic + 1 + second / 32 % 4;
+    let fraction = fraction + second / 4 % 8;
+    if !is_epoch(epoch) {
+        expect_fault(rt, &head, CucFault::NotCuc);
+        false
+    } else if second >= 128 {
+        expect_fault(rt, &head, CucFault::ThirdOctet);
+        false
+    } else if fraction > 6 {
+        expect_fault(rt, &head, CucFault::FractionWidth);
+        false
+    } else {
+        expect_code(rt, &head, epoch, basic, fraction);
+        true
+    }
+}
+
+// How many second octets are taken behind the first one.
+fn taken_behind(rt: &impl Abort, first: u8) -> u32
+    requires { first < 128 }
+{
+    let mut taken: u32 = 0;
+    for second in 0..=255u8 {
+        if expect_pair(rt, first, second) {
+            taken = taken.saturating_add(1);
+        }
+    }
+    taken
+}
+
+#[test]
+fn each_pair_of_octets(rt: HostRuntime) {
+    let mut taken: u32 = 0;
+    for first in 0..128u8 {
+        taken = taken.saturating_add(taken_behind(&rt, first));
+    }
+    // Two epochs, 4 by 4 basic octets, 22 of the 32 sums of fraction octets, and four reserved values.
+    assert_eq!(rt; taken, 2 * 16 * 22 * 4);
 }
