@@ -2,6 +2,7 @@ ghost use Rattle.std.specs.Prelude.{◌≡◌, ◌⊎◌};
 
 use crate::{AnyCds, Cds, CdsFault};
 use sk_octets::WrongLength;
+use std::process::Abort;
 use std::test::Fail;
 
 // The three numbers of the field, where writing them gives its bytes.
@@ -58,6 +59,12 @@ fn codes_are_read_and_written(rt: HostRuntime) -> Result<(), Fail> {
         (
             b"\x40\x54\x2d\x05\x26\x5c\x00".as_slice(),
             21549,
+            86400000,
+            0,
+        ),
+        (
+            b"\x40\x54\x2c\x05\x26\x5c\x00".as_slice(),
+            21548,
             86400000,
             0,
         ),
@@ -130,4 +137,61 @@ fn bytes_are_refused_in_order(rt: HostRuntime) {
     for (bytes, fault) in table {
         assert_eq!(rt; AnyCds::read(bytes).err(), Some(fault));
     }
+}
+
+// The P-field is taken before a T-field of this length, and before no shorter or longer one.
+fn expect_code(rt: &impl Abort, octet: u8, length: usize) {
+    assert!(rt; 1 <= length && length <= 11);
+    let mut bytes = [1u8; 13];
+    bytes[0] = octet;
+    let end = 1 + length;
+    let Ok(code) = AnyCds::read(&bytes[..end]) else {
+        assert!(rt; false, "refused {octet}");
+        return;
+    };
+    let mut buf = [0u8; 12];
+    assert_eq!(rt; code.write_into(&mut buf), Ok(end), "at {octet}");
+    assert_eq!(rt; &buf[..end], &bytes[..end], "at {octet}");
+    assert_eq!(rt;
+        AnyCds::read(&bytes[..end - 1]).err(),
+        Some(CdsFault::Length),
+        "at {octet}"
+    );
+    assert_eq!(rt;
+        AnyCds::read(&bytes[..end + 1]).err(),
+        Some(CdsFault::Length),
+        "at {octet}"
+    );
+}
+
+// The fault of an octet with this bit 0, these bits 1 to 3, this bit 4 and these bits 6 and 7.
+fn fault_of(extension: u8, kind: u8, epoch: u8, width: u8) -> Option<CdsFault> {
+    if kind != 4 {
+        Some(CdsFault::NotCds)
+    } else if extension == 1 {
+        Some(CdsFault::Extension)
+    } else if epoch == 1 {
+        Some(CdsFault::AgencyEpoch)
+    } else if width == 3 {
+        Some(CdsFault::Reserved)
+    } else {
+        None
+    }
+}
+
+#[test]
+fn each_octet(rt: HostRuntime) {
+    let mut taken: u32 = 0;
+    for octet in 0..=255u8 {
+        let width = octet % 4;
+        let day = octet / 4 % 2;
+        match fault_of(octet / 128, octet / 16 % 8, octet / 8 % 2, width) {
+            Some(fault) => assert_eq!(rt; AnyCds::read(&[octet]).err(), Some(fault), "at {octet}"),
+            None => {
+                expect_code(&rt, octet, usize::from(2 + day + 4 + 2 * width));
+                taken = taken.saturating_add(1);
+            }
+        }
+    }
+    assert_eq!(rt; taken, 6);
 }
