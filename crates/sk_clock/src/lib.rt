@@ -15,6 +15,8 @@ mod partition;
 mod reading;
 mod scan;
 mod stages;
+#[cfg(test)]
+mod tests;
 mod text;
 mod ticks;
 
