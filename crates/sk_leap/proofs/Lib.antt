@@ -14,3 +14,4 @@ pub mod Rising
 pub mod Clocks
 pub mod Found
 pub mod Printing
+pub mod OneUtc

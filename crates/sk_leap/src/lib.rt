@@ -17,7 +17,7 @@ mod tests;
 mod text;
 mod utc;
 
-pub use laws::times_rise;
+pub use laws::{one_utc, times_rise};
 pub use table::{LeapFault, LeapName, LeapTable};
 pub use text::{print_utc, read_utc};
 pub use utc::{Utc, UtcFault, UtcTextFault};
