@@ -1,94 +1,14 @@
-//! The words of the command line, read as one command with options of one text each.
+//! The words of the command line: what they ask for, or why they are refused.
 #![tactic(auto)]
 
-ghost use Rattle.std.specs.Prelude.{◌≡◌, ◌≢◌, IfOk, IfErr, Err, map, true, false, [], List, ℕ};
-ghost use Rattle.clap.specs.Words.{app_of, found_of, rows_of, kind_of};
-ghost use Rattle.sk_words.specs.Words.{station, with_options, AreMatched, is_taken, faults};
-
-use clap::error::ErrorKind;
-use clap::{Arg, ArgMatches, Command, Error};
-use sk_checks::NoMemory;
-use std::alloc::Global;
-
-/// Why the words give no matches.
-#[derive(Clone, Copy)]
-pub enum WordsStop {
-    NotTaken,
-    NoMemory,
-}
-
-static OPTIONS: [&str; 19] = [
-    "leap",
-    "kernel",
-    "obs",
-    "sc",
-    "tol-ns",
-    "rate-decimals",
-    "band-ppm",
-    "slip-ns",
-    "hold",
-    "id",
-    "clock",
-    "seed",
-    "count",
-    "reject",
-    "time",
-    "new",
-    "over",
-    "from",
-    "to",
-];
-
-/// The command with an option of one text for each name.
-fn add_options<'a>(
-    alloc: Global,
-    command: Command<'a>,
-    names: &'a [&'a str],
-) -> Result<Command<'a>, NoMemory>
-    ensures { IfOk result (λ c. app_of c ≡ with_options (map (λ n. n.now) names.entry.now) (app_of command.entry)) }
-{
-    let mut command = command;
-    for name in names {
-        command = command.arg(Arg::new(alloc, name).long(name))?;
-    }
-    Ok(command)
-}
-
-/// One required word, and the options.
-#[tactic(auto, unfolding(crate::specs::Words::station))]
-fn station_command<'a>(alloc: Global) -> Result<Command<'a>, NoMemory>
-    ensures { IfOk result (λ c. app_of c ≡ station) }
-{
-    let word = Arg::new(alloc, "command").required(true);
-    let command = Command::new(alloc, "station").arg(word)?;
-    add_options(alloc, command, OPTIONS.as_slice())
-}
-
-/// What a refusal of the words means.
-fn stop_of(error: Error) -> WordsStop
-    ensures taken { result ≡ WordsStop.NotTaken → kind_of error ≢ ErrorKind.OutOfMemory }
-    ensures memory { result ≡ WordsStop.NoMemory → kind_of error ≡ ErrorKind.OutOfMemory }
-{
-    match error.kind() {
-        ErrorKind::OutOfMemory => WordsStop::NoMemory,
-        _ => WordsStop::NotTaken,
-    }
-}
-
-/// The matches of the words, the first of which stands for the program's name.
-pub fn matches_in<'a>(alloc: Global, words: &'a [&'a str]) -> Result<ArgMatches<'a>, WordsStop>
-    ensures ok { IfOk result (λ m. AreMatched (map (λ w. w.now) words.entry.now) (rows_of (found_of m))) }
-    ensures not_taken { result ≡ Err WordsStop.NotTaken → is_taken (map (λ w. w.now) words.entry.now) ≡ false }
-    ensures refused { result ≡ Err WordsStop.NotTaken → faults (map (λ w. w.now) words.entry.now) ≢ [] }
-{
-    let Ok(command) = station_command(alloc) else {
-        return Err(WordsStop::NoMemory);
-    };
-    match command.try_get_matches_from(words) {
-        Ok(matches) => Ok(matches),
-        Err(error) => Err(stop_of(error)),
-    }
-}
-
+mod fault;
+mod matched;
+mod ranges;
+mod request;
+mod tables;
 #[cfg(test)]
 mod tests;
+
+pub use fault::{WordsFault, WordsStop};
+pub use request::{Request, requested};
+pub use tables::{Command, OptionName};

@@ -1,4 +1,4 @@
-use super::*;
+use crate::matched::{MatchStop, matches_in};
 use std::test::Fail;
 
 #[test]
@@ -42,7 +42,7 @@ fn other_words_are_not_taken(rt: HostRuntime) {
     ];
     for (place, words) in table.iter().enumerate() {
         let is_refused = match matches_in(alloc, words) {
-            Err(WordsStop::NotTaken) => true,
+            Err(MatchStop::NotTaken) => true,
             _ => false,
         };
         assert!(rt; is_refused, "at {place}");

@@ -5,16 +5,16 @@ use Rattle.std.specs.Result.{IsErrAnd}
 use Rattle.sk_edge.specs.Causes.{Rose}
 use Rattle.sk_grammar.specs.Document.{DocView}
 use Rattle.sk_grammar.specs.declared.fault.GrammarFault.{GrammarFault}
-use Rattle.station.specs.declared.status.Status.{Status}
-use Rattle.station.specs.declared.status.FileKind.{FileKind}
+use Rattle.sk_status.specs.declared.status.Status.{Status}
+use Rattle.sk_status.specs.declared.status.FileKind.{FileKind}
 use Rattle.station.specs.Stage.{Stage, ◌>>=◌, MayAnswer}
-use Rattle.station.specs.declared.status.Status.TheVariants.{NoMemory}
+use Rattle.sk_status.specs.declared.status.Status.TheVariants.{NoMemory}
 use Rattle.sk_leap.specs.declared.pair.LeapPair.{LeapPair}
 use Rattle.sk_clock.specs.Clock.{ClockView}
 use Rattle.sk_clock.specs.Row.{RowView}
-use Rattle.station.specs.declared.status.FileKind.TheVariants.{Leap, Kernel, Observations}
-use Rattle.station.specs.declared.status.OptionName.TheVariants as opt
-use Rattle.station.specs.Request.{Options, text_or}
+use Rattle.sk_status.specs.declared.status.FileKind.TheVariants.{Leap, Kernel, Observations}
+use Rattle.sk_words.specs.declared.tables.OptionName.TheVariants as opt
+use Rattle.sk_words.specs.Request.{Options, text_or}
 use Rattle.station.specs.Files.{Source, KernelRead, reads, document, file_limit, refused_by, leap_named, leap_file, kernel_file, observation_file}
 
 pub rose_later : (a b c : ℕ) → a ≤ b → Rose b c → Rose a c

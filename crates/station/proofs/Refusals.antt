@@ -1,19 +1,16 @@
 -- What the stages of a run refuse is no end of a run that wrote.
 use Rattle.std.proofs.Common.{◌≡◌, ◌⊎◌, ℕ, List, Option, Some, None, Result, Ok, Err, [], ◌∷◌, refl, sym, subst, inl, inr}
 use Rattle.std.specs.Prelude.{codes}
-use Rattle.std.specs.Option.{option_map}
-use Rattle.station.specs.declared.status.Status.{Status}
-use Rattle.station.specs.declared.status.Status.TheVariants.{Done, WordsRefused, LeapRefused, KernelRefused, ObservationRefused, NotPublished, ReadFault, WriteFault, NoMemory, TimeRefused, AuditNo, NewRefused, ExcerptRefused, OverRefused}
-use Rattle.station.specs.declared.status.WordsFault.{WordsFault}
-use Rattle.station.specs.declared.status.WordsFault.TheVariants.{NotTaken}
-use Rattle.station.specs.declared.status.Command.{Command}
-use Rattle.station.specs.declared.status.Command.TheVariants.{Residuals, Normal}
-use Rattle.station.specs.declared.status.FileKind.{FileKind}
-use Rattle.station.specs.declared.status.FileKind.TheVariants.{Leap, Kernel, Observations, New, Over}
-use Rattle.station.specs.declared.status.OptionName.TheVariants as opt
-use Rattle.station.specs.declared.status.LeapStop.TheVariants as leap_stop
-use Rattle.station.specs.declared.status.KernelStop.TheVariants as kernel_stop
-use Rattle.station.specs.declared.status.ObsStop.TheVariants as obs_stop
+use Rattle.sk_status.specs.declared.status.Status.{Status}
+use Rattle.sk_status.specs.declared.status.Status.TheVariants.{Done, WordsRefused, LeapRefused, KernelRefused, ObservationRefused, NotPublished, ReadFault, WriteFault, NoMemory, TimeRefused, AuditNo, NewRefused, ExcerptRefused, OverRefused}
+use Rattle.sk_words.specs.declared.tables.Command.{Command}
+use Rattle.sk_words.specs.declared.tables.Command.TheVariants.{Residuals, Normal}
+use Rattle.sk_status.specs.declared.status.FileKind.{FileKind}
+use Rattle.sk_status.specs.declared.status.FileKind.TheVariants.{Leap, Kernel, Observations, New, Over}
+use Rattle.sk_words.specs.declared.tables.OptionName.TheVariants as opt
+use Rattle.sk_status.specs.declared.status.LeapStop.TheVariants as leap_stop
+use Rattle.sk_status.specs.declared.status.KernelStop.TheVariants as kernel_stop
+use Rattle.sk_status.specs.declared.status.ObsStop.TheVariants as obs_stop
 use Rattle.sk_grammar.specs.Document.{DocView}
 use Rattle.sk_grammar.specs.Variables.{VariableView}
 use Rattle.sk_grammar.specs.Canonical.{ended_by_line_feeds, canonical_text}
@@ -26,15 +23,16 @@ use Rattle.sk_report.specs.Report.{table_checks}
 use Rattle.sk_report.specs.declared.fault.ReportFault.{ReportFault}
 use Rattle.sk_report.specs.declared.fault.ReportFault.TheVariants as report_fault
 use Rattle.station.specs.Stage.{Stage, ◌>>=◌, MayAnswer, gives}
-use Rattle.sk_words.specs.Words.{matches}
-use Rattle.station.specs.Request.{Options, text_or, rows_fault}
+use Rattle.sk_words.specs.Asked.{WordsAsk}
+use Rattle.sk_words.specs.Request.{Options, text_or}
 use Rattle.station.specs.Files as files
 use Rattle.station.specs.Files.{Source, KernelRead, reads, judged, refused_by, too_long, sc_of}
-use Rattle.station.specs.Outcome.{Request, requested, outcome, outcome_of, residuals, normal, tabled, all_covered, status_of_report}
+use Rattle.station.specs.Outcome.{requested, outcome, outcome_of, residuals, normal, tabled, all_covered, status_of_report}
 use Rattle.station.specs.Output.{plain_table}
 use Rattle.station.proofs.Tails.{after_leap, after_kernel, after_observations, after_lines}
-use Rattle.station.specs.Ending.{Written, Ends, IsUntouched}
-use Rattle.station.specs.Notes.{IsToldExactly}
+use Rattle.station.specs.Ending.{Ends}
+use Rattle.sk_status.specs.Written.{Written, IsUntouched}
+use Rattle.sk_status.specs.Notes.{IsToldExactly}
 
 -- the end of a run that wrote, or that has no publication
 abbrev Wrote : Status → Type 0
@@ -129,16 +127,8 @@ never_command : (command : Command) (source : Source) (options : Options) → Ne
 never_command Residuals source options = never_residuals source options
 never_command Normal source options = never_normal source options
 
-never_fault : (o : Option WordsFault) (status : Status) → Wrote status → option_map WordsRefused o ≡ Some status → ⊥
-never_fault None status w h = cc
-never_fault (Some fault) Done w h = cc
-never_fault (Some fault) WriteFault w h = cc
-never_fault (Some fault) (NotPublished _) w h = cc
-never_fault (Some fault) _ w h = w
-
 never_requested : (words : List (List ℕ)) → Never (requested words)
-never_requested words status w (inl h) = subst Wrote h.1 w
-never_requested words status w (inr h) = never_fault (rows_fault (matches words)) status w h.1
+never_requested words = never_judged (WordsAsk words) WordsRefused (λ fault w. w)
 
 never_outcome : (words : List (List ℕ)) (source : Source) → Never (outcome words source)
 never_outcome words source =

@@ -4,7 +4,7 @@ use Rattle.sk_grammar.specs.Canonical.{ended_by_line_feeds}
 use Rattle.sk_leap.specs.declared.pair.LeapPair.{LeapPair}
 use Rattle.sk_clock.specs.Row.{RowView}
 use Rattle.station.specs.Stage.{Stage, ◌>>=◌, gives}
-use Rattle.station.specs.Request.{Options}
+use Rattle.sk_words.specs.Request.{Options}
 use Rattle.station.specs.Files.{Source, KernelRead, kernel_file, observation_file}
 use Rattle.station.specs.Outcome.{tabled}
 

@@ -22,17 +22,17 @@ use Rattle.sk_obs.specs.File.{records_of, file_checks, AreObservations}
 use Rattle.sk_triples.specs.declared.triple.TriplesFault.{TriplesFault}
 use Rattle.sk_triples.specs.Kernel.{TriplesView}
 use Rattle.sk_triples.specs.Coefficients.{triples_checks, AreTriplesOf}
-use Rattle.station.specs.declared.status.Status.{Status}
-use Rattle.station.specs.declared.status.Status.TheVariants.{LeapRefused, KernelRefused, ObservationRefused, NewRefused, OverRefused, ReadFault}
-use Rattle.station.specs.declared.status.FileKind.{FileKind}
-use Rattle.station.specs.declared.status.FileKind.TheVariants.{Leap, Kernel, Observations, New, Over}
-use Rattle.station.specs.declared.status.LeapStop.TheVariants as leap_stop
-use Rattle.station.specs.declared.status.KernelStop.TheVariants as kernel_stop
-use Rattle.station.specs.declared.status.ObsStop.TheVariants as obs_stop
-use Rattle.station.specs.declared.status.TextStop.TheVariants as text_stop
-use Rattle.station.specs.declared.status.OptionName.TheVariants as opt
+use Rattle.sk_status.specs.declared.status.Status.{Status}
+use Rattle.sk_status.specs.declared.status.Status.TheVariants.{LeapRefused, KernelRefused, ObservationRefused, NewRefused, OverRefused, ReadFault}
+use Rattle.sk_status.specs.declared.status.FileKind.{FileKind}
+use Rattle.sk_status.specs.declared.status.FileKind.TheVariants.{Leap, Kernel, Observations, New, Over}
+use Rattle.sk_status.specs.declared.status.LeapStop.TheVariants as leap_stop
+use Rattle.sk_status.specs.declared.status.KernelStop.TheVariants as kernel_stop
+use Rattle.sk_status.specs.declared.status.ObsStop.TheVariants as obs_stop
+use Rattle.sk_status.specs.declared.status.TextStop.TheVariants as text_stop
+use Rattle.sk_words.specs.declared.tables.OptionName.TheVariants as opt
 use Rattle.station.specs.Stage.{Stage, ◌>>=◌, gives}
-use Rattle.station.specs.Request.{Options, number_or, text_or}
+use Rattle.sk_words.specs.Request.{Options, number_or, text_or}
 
 -- a file has at most this many bytes
 abbrev pub file_limit : ℕ

@@ -1,12 +1,8 @@
-pub mod Status
 pub mod Stage
-pub mod Request
 pub mod Files
 pub mod Time
 pub mod Output
 pub mod Sample
 pub mod Outcome
-pub mod Asked
-pub mod Notes
 pub mod Ending
 pub mod Headline

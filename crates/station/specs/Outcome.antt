@@ -27,20 +27,19 @@ use Rattle.sk_audit.specs.declared.verdict.Verdict.TheVariants.{Yes, No}
 use Rattle.sk_excerpt.specs.Excerpt as ex
 use Rattle.sk_least.specs.declared.stretch.Stretch.{Stretch}
 use Rattle.sk_least.specs.Answer as cover
-use Rattle.station.specs.declared.status.Command.{Command}
-use Rattle.station.specs.declared.status.Command.TheVariants.{Residuals, Normal}
-use Rattle.station.specs.declared.status.Status.{Status}
-use Rattle.station.specs.declared.status.Status.TheVariants.{WordsRefused, ObservationRefused, NotPublished, TimeRefused, AuditNo, NewRefused, ExcerptRefused, OverRefused, NoMemory}
-use Rattle.station.specs.declared.status.FileKind.TheVariants.{New, Over}
-use Rattle.station.specs.declared.status.ObsStop.TheVariants as obs_stop
-use Rattle.station.specs.declared.status.TextStop.TheVariants as text_stop
-use Rattle.station.specs.declared.status.TimeStop.{TimeStop}
-use Rattle.station.specs.declared.status.TimeStop.TheVariants as time_stop
-use Rattle.station.specs.declared.status.WordsFault.TheVariants.{NotTaken}
-use Rattle.station.specs.declared.status.OptionName.TheVariants as opt
-use Rattle.sk_words.specs.Words.{faults, matches}
+use Rattle.sk_words.specs.declared.tables.Command.{Command}
+use Rattle.sk_words.specs.declared.tables.Command.TheVariants.{Residuals, Normal}
+use Rattle.sk_status.specs.declared.status.Status.{Status}
+use Rattle.sk_status.specs.declared.status.Status.TheVariants.{WordsRefused, ObservationRefused, NotPublished, TimeRefused, AuditNo, NewRefused, ExcerptRefused, OverRefused, NoMemory}
+use Rattle.sk_status.specs.declared.status.FileKind.TheVariants.{New, Over}
+use Rattle.sk_status.specs.declared.status.ObsStop.TheVariants as obs_stop
+use Rattle.sk_status.specs.declared.status.TextStop.TheVariants as text_stop
+use Rattle.sk_status.specs.declared.status.TimeStop.{TimeStop}
+use Rattle.sk_status.specs.declared.status.TimeStop.TheVariants as time_stop
+use Rattle.sk_words.specs.declared.tables.OptionName.TheVariants as opt
+use Rattle.sk_words.specs.Asked.{Request, WordsAsk}
 use Rattle.station.specs.Stage.{Stage, ◌>>=◌, gives, some}
-use Rattle.station.specs.Request.{Options, rows_fault, options_of, command_of, used, number_or, text_or, over_names}
+use Rattle.sk_words.specs.Request.{Options, number_or, text_or, over_names}
 use Rattle.station.specs.Files.{Source, reads, judged, document, leap_file, kernel_document, kernel_meaning, kernel_file, observation_file, KernelRead, sc_of}
 use Rattle.station.specs.Output.{settings_of, plain_table, published_doc, tick_fields, time_by, line_of, least_text, new_kernel}
 use Rattle.station.specs.Time.{time_stops, IsUtcWord}
@@ -200,17 +199,9 @@ abbrev pub outcome_of : Command → Source → Options → Stage (List ℕ)
 outcome_of Residuals = residuals
 outcome_of Normal = normal
 
--- what the words ask for
-pub record Request : Type 0 where
-  pub command : Command
-  pub options : Options
-
--- The words: clap's refusal, the command, the options that are needed, and the ranges.
+-- the words
 abbrev pub requested : List (List ℕ) → Stage Request
-requested words (Ok request) = (faults words ≡ []) × (rows_fault (matches words) ≡ None)
-    × (command_of (matches words) ≡ Some request.command) × (request.options ≡ used request.command (options_of (matches words)))
-requested words (Err status) = ((¬ (faults words ≡ [])) × (status ≡ WordsRefused NotTaken))
-    ⊎ ((faults words ≡ []) × (option_map WordsRefused (rows_fault (matches words)) ≡ Some status))
+requested words = judged (WordsAsk words) WordsRefused
 
 -- The text that a run writes, or the first refusal.
 abbrev pub outcome : List (List ℕ) → Source → Stage (List ℕ)

@@ -3,18 +3,18 @@ ghost use Rattle.std.specs.Prelude.{◌≡◌, List, ℕ, Some};
 ghost use Rattle.sk_edge.specs.Causes.{Rose, NoneFalls};
 ghost use Rattle.sk_edge.specs.Transfer.{SameFiles};
 ghost use Rattle.station.specs.Stage.{MayAnswer};
-ghost use Rattle.station.specs.Asked.{options_in, NeedsNumber};
+ghost use Rattle.sk_words.specs.Asked.{options_in, NeedsNumber};
 ghost use Rattle.station.specs.Files.{Source, leap_named as named_stage, leap_file as leap_stage, kernel_document as document_stage, kernel_file as kernel_stage, observation_file as observation_stage, HasFew};
 
 use crate::kernel::Kernel;
 use crate::meaning::{kernel_meaning, leap_meaning, observed};
 use crate::reading::{document, read_file};
-use crate::request::Request;
-use crate::status::{FileKind, OptionName, Status};
 use sk_edge::Depot;
 use sk_grammar::List;
 use sk_leap::LeapTable;
 use sk_obs::Observation;
+use sk_status::{FileKind, Status};
+use sk_words::{OptionName, Request};
 use std::alloc::Global;
 
 /// The leap table of a file.

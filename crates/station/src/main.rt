@@ -4,28 +4,17 @@
 mod files;
 mod kernel;
 mod meaning;
-mod names;
 mod normal;
-mod note;
-mod pieces;
-mod ranges;
 mod reading;
-mod request;
 mod residuals;
-mod status;
-mod tables;
 #[cfg(test)]
 mod tests;
 mod top;
-mod words;
 
-use note::write_note;
 pub use reading::{document, read_file};
 use sk_edge::{FileDepot, Sink, StreamSink};
-pub use status::{
-    Command, FileKind, KernelStop, LeapStop, ObsStop, OptionName, Status, TextStop, TimeStop,
-    WordsFault,
-};
+use sk_status::{Status, write_note};
+use sk_words::WordsFault;
 use std::env;
 use std::io::ErrorKind;
 use std::process::ExitCode;

@@ -7,13 +7,13 @@ ghost use Rattle.station.specs.Stage.{MayAnswer};
 ghost use Rattle.station.specs.Files.{HasFew, leap_pool as leap_pool_stage, leap_table as leap_table_stage, leap_meaning as leap_stage, kernel_pool as pool_stage, kernel_clock as clock_stage, kernel_triples as triples_stage, kernel_meaning as kernel_stage, observed as observed_stage};
 
 use crate::kernel::Kernel;
-use crate::status::{KernelStop, LeapStop, ObsStop, Status};
 use sk_clock::{Clock, ClockKernelFault};
 use sk_grammar::{Doc, List};
 use sk_leap::{LeapFault, LeapTable};
 use sk_obs::{ObsFault, Observation, read_observations};
 use sk_pool::{Pool, PoolFault};
 use sk_triples::{Triples, TriplesFault};
+use sk_status::{KernelStop, LeapStop, ObsStop, Status};
 use std::alloc::Global;
 
 /// The pool of a leap second kernel's document.

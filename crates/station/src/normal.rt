@@ -4,16 +4,16 @@ ghost use Rattle.sk_edge.specs.Causes.{Rose, NoneFalls};
 ghost use Rattle.sk_edge.specs.Transfer.{SameFiles};
 ghost use Rattle.sk_grammar.specs.Canonical.{canonical_text};
 ghost use Rattle.station.specs.Stage.{MayAnswer, gives};
-ghost use Rattle.station.specs.Asked.{options_in};
+ghost use Rattle.sk_words.specs.Asked.{options_in};
 ghost use Rattle.station.specs.Files.{Source};
 ghost use Rattle.station.specs.Outcome.{normal as normal_stage};
 
 use crate::reading::document;
-use crate::request::Request;
-use crate::status::{FileKind, OptionName, Status};
 use sk_edge::Depot;
 use sk_grammar::Doc;
 use sk_writer::write_doc;
+use sk_status::{FileKind, Status};
+use sk_words::{OptionName, Request};
 use std::alloc::Global;
 
 /// The canonical text of a document.

@@ -5,9 +5,9 @@ ghost use Rattle.sk_edge.specs.Transfer.{SameFiles};
 ghost use Rattle.station.specs.Stage.{MayAnswer};
 ghost use Rattle.station.specs.Files.{Source, reads, too_long as status_when_long, refused_by, document as document_stage, judged, DocOf, HasFew};
 
-use crate::status::{FileKind, KernelStop, LeapStop, ObsStop, Status, TextStop};
 use sk_edge::{Depot, ReadStop, read_all};
 use sk_grammar::{Doc, GrammarFault, read_doc};
+use sk_status::{FileKind, KernelStop, LeapStop, ObsStop, Status, TextStop};
 use std::alloc::Global;
 
 const FILE_LIMIT: usize = 16_777_216;

@@ -4,19 +4,19 @@ ghost use Rattle.sk_edge.specs.Causes.{Rose, NoneFalls};
 ghost use Rattle.sk_edge.specs.Transfer.{SameFiles};
 ghost use Rattle.sk_grammar.specs.Canonical.{ended_by_line_feeds};
 ghost use Rattle.station.specs.Stage.{MayAnswer};
-ghost use Rattle.station.specs.Asked.{options_in, NeedsNumber};
+ghost use Rattle.sk_words.specs.Asked.{options_in, NeedsNumber};
 ghost use Rattle.station.specs.Files.{Source};
 ghost use Rattle.station.specs.Outcome.{residuals as residuals_stage, tabled as tabled_stage};
 
 use crate::files::{kernel_file, leap_file, observation_file};
 use crate::kernel::Kernel;
-use crate::request::Request;
-use crate::status::{ObsStop, Status};
 use sk_checks::NoMemory;
 use sk_edge::Depot;
 use sk_grammar::{Bytes, List};
 use sk_obs::Observation;
 use sk_report::{ReportFault, table};
+use sk_status::{ObsStop, Status};
+use sk_words::Request;
 use std::alloc::Global;
 
 /// The lines of the table by the kernel's own triples.

@@ -3,23 +3,21 @@
 ghost use Rattle.std.specs.Prelude.{◌≡◌, List, ℕ, Option, Some, Result, Ok, Err, map, string_bytes, IfOk, IsSome, All, codes, false, ◌∷◌};
 ghost use Rattle.sk_edge.specs.Causes.{Rose, NoneFalls};
 ghost use Rattle.sk_edge.specs.Transfer.{SameFiles};
-ghost use Rattle.sk_words.specs.Words.{is_taken, matches};
-ghost use Rattle.station.specs.Asked.{options_in};
+ghost use Rattle.sk_words.specs.Words.{is_taken};
+ghost use Rattle.sk_words.specs.Asked.{options_in};
 ghost use Rattle.station.specs.Stage.{MayAnswer, gives};
 ghost use Rattle.station.specs.Files.{Source};
-ghost use Rattle.station.specs.Request.{files_of};
-ghost use Rattle.station.specs.Outcome.{outcome, outcome_of, requested as requested_by, Request as Asked};
-ghost use Rattle.station.specs.Ending.{Written, Ends, IsNoted};
-ghost use Rattle.station.specs.Notes.{IsToldExactly};
-ghost use Rattle.station.specs.declared.status.Status.{Status as Ended};
+ghost use Rattle.station.specs.Outcome.{outcome, outcome_of};
+ghost use Rattle.station.specs.Ending.{Ends};
+ghost use Rattle.sk_status.specs.Written.{Written, IsNoted};
+ghost use Rattle.sk_status.specs.Notes.{IsToldExactly};
 
 use crate::normal::normal;
-use crate::note::write_note;
-use crate::request::{Request, requested};
 use crate::residuals::residuals;
-use crate::status::{Command, Status, WordsFault};
 use sk_checks::NoMemory;
 use sk_edge::{Depot, Failed, Sink, write_all};
+use sk_status::{Status, write_note};
+use sk_words::{Command, Request, WordsFault, WordsStop, requested};
 use std::alloc::Global;
 
 /// The words behind a word that stands for the program's name.
@@ -70,7 +68,8 @@ fn whole_text<D: Depot>(alloc: Global, words: &[String], depot: &mut D) -> Resul
     };
     match requested(alloc, all.as_slice()) {
         Ok(request) => command_text(alloc, depot, &request),
-        Err(status) => Err(status),
+        Err(WordsStop::Refused(fault)) => Err(Status::WordsRefused(fault)),
+        Err(WordsStop::NoMemory) => Err(Status::NoMemory),
     }
 }
 

@@ -1,8 +1,8 @@
 use Rattle.std.proofs.Common.{◌≡◌, ℕ, List, Ok, subst}
-use Rattle.station.specs.declared.status.FileKind.TheVariants.{Kernel}
+use Rattle.sk_status.specs.declared.status.FileKind.TheVariants.{Kernel}
 use Rattle.station.specs.Stage.{MayAnswer}
-use Rattle.station.specs.Asked.{options_in}
-use Rattle.station.specs.Request.{Options}
+use Rattle.sk_words.specs.Asked.{options_in}
+use Rattle.sk_words.specs.Request.{Options}
 use Rattle.station.specs.Files.{Source, KernelRead, document, kernel_document, kernel_meaning, refused_by, sc_of}
 use Rattle.station.proofs.Moves.{may_then, over}
 use Rattle.station.proofs.files.kernel_file.Goals as goal

@@ -3,7 +3,7 @@ use Rattle.sk_grammar.specs.Document.{DocView}
 use Rattle.sk_grammar.specs.Variables.{VariableView}
 use Rattle.sk_clock.specs.Clock.{ClockView}
 use Rattle.sk_triples.specs.Kernel.{TriplesView}
-use Rattle.station.specs.declared.status.Status.{Status}
+use Rattle.sk_status.specs.declared.status.Status.{Status}
 use Rattle.station.specs.Stage.{Stage, ◌>>=◌, gives}
 use Rattle.station.specs.Files.{KernelRead, kernel_pool, kernel_clock, kernel_triples}
 use Rattle.station.proofs.Moves.{may_then, may_end_as, handed_on}

@@ -1,10 +1,10 @@
 use Rattle.std.proofs.Common.{◌≡◌, ℕ, List, Ok, subst}
 use Rattle.sk_grammar.specs.Document.{DocView}
 use Rattle.sk_grammar.specs.Canonical.{canonical_text}
-use Rattle.station.specs.declared.status.FileKind.TheVariants.{Kernel}
+use Rattle.sk_status.specs.declared.status.FileKind.TheVariants.{Kernel}
 use Rattle.station.specs.Stage.{gives}
-use Rattle.station.specs.Asked.{options_in}
-use Rattle.station.specs.Request.{Options}
+use Rattle.sk_words.specs.Asked.{options_in}
+use Rattle.sk_words.specs.Request.{Options}
 use Rattle.station.specs.Files.{Source, document, kernel_document, refused_by}
 use Rattle.station.proofs.Moves.{may_then, over}
 use Rattle.station.proofs.normal.normal.Goals as goal

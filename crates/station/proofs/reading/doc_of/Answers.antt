@@ -3,9 +3,9 @@ use Rattle.sk_grammar.specs.Answers.{IsFaultOf}
 use Rattle.sk_grammar.specs.Document.{DocView}
 use Rattle.sk_grammar.specs.declared.fault.GrammarFault.{GrammarFault}
 use Rattle.sk_grammar.specs.declared.fault.GrammarFault.TheVariants.{At, NoMemory}
-use Rattle.station.specs.declared.status.Status.{Status}
-use Rattle.station.specs.declared.status.FileKind.{FileKind}
-use Rattle.station.specs.declared.status.FileKind.TheVariants.{Leap, Kernel, Observations, New, Over}
+use Rattle.sk_status.specs.declared.status.Status.{Status}
+use Rattle.sk_status.specs.declared.status.FileKind.{FileKind}
+use Rattle.sk_status.specs.declared.status.FileKind.TheVariants.{Leap, Kernel, Observations, New, Over}
 use Rattle.station.specs.Stage.{Stage, MayAnswer}
 use Rattle.station.specs.Files.{judged, DocOf, refused_by}
 use Rattle.station.proofs.Sizes.{few_of}

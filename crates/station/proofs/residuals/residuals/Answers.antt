@@ -2,10 +2,10 @@ use Rattle.std.proofs.Common.{◌≡◌, ℕ, ◌≤◌, List, Option, Ok, Err, 
 use Rattle.sk_leap.specs.declared.pair.LeapPair.{LeapPair}
 use Rattle.sk_clock.specs.Row.{RowView}
 use Rattle.sk_grammar.specs.Canonical.{ended_by_line_feeds}
-use Rattle.station.specs.declared.status.Status.{Status}
+use Rattle.sk_status.specs.declared.status.Status.{Status}
 use Rattle.station.specs.Stage.{MayAnswer}
-use Rattle.station.specs.Asked.{options_in}
-use Rattle.station.specs.Request.{Options}
+use Rattle.sk_words.specs.Asked.{options_in}
+use Rattle.sk_words.specs.Request.{Options}
 use Rattle.station.specs.Files.{Source, KernelRead, leap_file, kernel_file, observation_file}
 use Rattle.station.specs.Outcome.{tabled}
 use Rattle.station.proofs.Moves.{may_then, may_end_as, handed_on, over, moves_over, Moves, leap_kept, kernel_kept, observations_kept, Keeps, kernel_moves, observations_move}

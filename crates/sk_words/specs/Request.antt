@@ -1,0 +1,154 @@
+-- What the words ask for.
+use Rattle.std.specs.Prelude.{◌≡◌, ℕ, ◌*◌, ◌+◌, ◌-◌, ◌<◌, ◌≤◌, Bool, true, false, ◌&&◌, ◌||◌, not, nat_le, nat_lt, ◌==◌, List, [], ◌∷◌, ◌++◌, length, codes, find, map, Option, Some, None, is_some, is_none, option_and_then, unwrap_or, if◌then◌else◌, Result, Ok, Err}
+use Rattle.std.specs.List.{list_all, list_any, slice_split}
+use Rattle.std.specs.Option.{option_map, option_map_or, option_to_list}
+use Rattle.std.specs.Char.{is_ascii_digit}
+use Rattle.std.specs.Str.{bytes_eq}
+use Rattle.std.specs.Str.Parse.{digits_value}
+use Rattle.clap.specs.Words.{Row}
+use Rattle.sk_words.specs.Words.{option_text, command_text, faults, matches}
+use Rattle.sk_words.specs.declared.tables.Command.{Command}
+use Rattle.sk_words.specs.declared.tables.Command.TheVariants.{Residuals, Normal}
+use Rattle.sk_words.specs.declared.tables.OptionName.{OptionName}
+use Rattle.sk_words.specs.declared.tables.OptionName.TheVariants as opt
+use Rattle.sk_words.specs.declared.fault.WordsFault.{WordsFault}
+use Rattle.sk_words.specs.declared.fault.WordsFault.TheVariants.{NotTaken, UnknownCommand, NeedOption, OutOfRange}
+
+-- ---- the tables
+
+abbrev pub name_of : OptionName → List ℕ
+name_of opt.Leap = codes "leap"
+name_of opt.Kernel = codes "kernel"
+name_of opt.Obs = codes "obs"
+name_of opt.Sc = codes "sc"
+name_of opt.TolNs = codes "tol-ns"
+name_of opt.RateDecimals = codes "rate-decimals"
+name_of opt.BandPpm = codes "band-ppm"
+name_of opt.SlipNs = codes "slip-ns"
+name_of opt.Hold = codes "hold"
+name_of opt.Id = codes "id"
+name_of opt.Clock = codes "clock"
+name_of opt.Seed = codes "seed"
+name_of opt.Count = codes "count"
+name_of opt.Reject = codes "reject"
+name_of opt.Time = codes "time"
+name_of opt.New = codes "new"
+name_of opt.Over = codes "over"
+name_of opt.From = codes "from"
+name_of opt.To = codes "to"
+
+-- the option table, in order
+abbrev pub all_options : List OptionName
+all_options = opt.Leap ∷ opt.Kernel ∷ opt.Obs ∷ opt.Sc ∷ opt.TolNs ∷ opt.RateDecimals ∷ opt.BandPpm ∷ opt.SlipNs ∷ opt.Hold
+    ∷ opt.Id ∷ opt.Clock ∷ opt.Seed ∷ opt.Count ∷ opt.Reject ∷ opt.Time ∷ opt.New ∷ opt.Over ∷ opt.From ∷ opt.To ∷ []
+
+abbrev pub word_of : Command → List ℕ
+word_of Residuals = codes "residuals"
+word_of Normal = codes "normal"
+
+abbrev pub all_commands : List Command
+all_commands = Residuals ∷ Normal ∷ []
+
+-- the options that a command needs, in the order of the option table
+abbrev pub needs : Command → List OptionName
+needs Residuals = opt.Kernel ∷ opt.Obs ∷ opt.Sc ∷ []
+needs Normal = opt.Kernel ∷ []
+
+-- the options that a command uses; others that are given are checked for their range alone
+abbrev pub uses : Command → List OptionName
+uses Residuals = opt.Leap ∷ opt.Kernel ∷ opt.Obs ∷ opt.Sc ∷ []
+uses Normal = opt.Kernel ∷ []
+
+-- ---- ranges
+
+-- 1 to 16 digits
+abbrev pub is_number : List ℕ → Bool
+is_number text = nat_le 1 (length text) && (nat_le (length text) 16 && list_all is_ascii_digit text)
+
+-- the number that the text writes
+abbrev pub number_of : List ℕ → Option ℕ
+number_of text = if is_number text then Some (digits_value 10 text) else None
+
+abbrev pub is_number_in : ℕ → ℕ → List ℕ → Bool
+is_number_in low high text = is_number text && (nat_le low (digits_value 10 text) && nat_le (digits_value 10 text) high)
+
+abbrev pub is_file_name : List ℕ → Bool
+is_file_name text = nat_le 1 (length text)
+
+-- bytes from 33 to 126 without `,`, `(`, `)` and `'`
+abbrev pub is_id_byte : ℕ → Bool
+is_id_byte byte = nat_le 33 byte && nat_le byte 126 && not (byte == 44 || byte == 40 || byte == 41 || byte == 39)
+
+-- the names between commas
+abbrev pub over_names : List ℕ → List (List ℕ)
+over_names text = slice_split (λ byte. byte == 44) text
+
+abbrev pub is_in_range : OptionName → List ℕ → Bool
+is_in_range opt.Leap text = is_file_name text
+is_in_range opt.Kernel text = is_file_name text
+is_in_range opt.Obs text = is_file_name text
+is_in_range opt.Sc text = is_number_in 1 999999999 text
+is_in_range opt.TolNs text = is_number_in 1 60000000000 text
+is_in_range opt.RateDecimals text = is_number_in 1 15 text
+is_in_range opt.BandPpm text = is_number_in 1 100000 text
+is_in_range opt.SlipNs text = is_number_in 0 60000000000 text
+is_in_range opt.Hold text = is_number_in 0 9007199254740991 text
+is_in_range opt.Id text = nat_le 1 (length text) && (nat_le (length text) 79 && list_all is_id_byte text)
+is_in_range opt.Clock text = true
+is_in_range opt.Seed text = is_number_in 0 4294967295 text
+is_in_range opt.Count text = is_number_in 1 100000 text
+is_in_range opt.Reject text = is_number_in 0 100000 text
+is_in_range opt.Time text = true
+is_in_range opt.New text = is_file_name text
+is_in_range opt.Over text = list_all is_file_name (over_names text) && nat_le (length (over_names text)) 16
+is_in_range opt.From text = is_number_in 0 9007199254740991 text
+is_in_range opt.To text = is_number_in 0 9007199254740991 text
+
+-- ---- the words
+
+-- the texts of the options that are given
+abbrev pub Options : Type 0
+Options = OptionName → Option (List ℕ)
+
+abbrev pub options_of : List Row → Options
+options_of rows name = option_text (name_of name) rows
+
+abbrev pub command_of : List Row → Option Command
+command_of rows = option_and_then (λ word. find (λ c. bytes_eq (word_of c) word) all_commands) (command_text rows)
+
+-- the first option that is needed and missing, and the first that is given and out of range
+abbrev pub first_missing : Command → Options → Option OptionName
+first_missing command options = find (λ name. is_none (options name)) (needs command)
+
+abbrev pub is_out_of_range : Options → OptionName → Bool
+is_out_of_range options name = option_map_or (λ text. not (is_in_range name text)) (options name) false
+
+abbrev pub first_out_of_range : Options → Option OptionName
+first_out_of_range options = find (is_out_of_range options) all_options
+
+-- why the words of a command are refused
+abbrev pub options_fault : Command → Options → Option WordsFault
+options_fault command options = option_map_or (λ name. Some (NeedOption name))
+    (first_missing command options)
+    (option_map (λ name. OutOfRange name) (first_out_of_range options))
+
+abbrev pub rows_fault : List Row → Option WordsFault
+rows_fault rows = option_map_or (λ command. options_fault command (options_of rows)) (command_of rows) (Some UnknownCommand)
+
+-- the options without those that the command does not use
+abbrev pub used : Command → Options → Options
+used command options name = if list_any (λ u. bytes_eq (name_of u) (name_of name)) (uses command) then options name else None
+
+-- the names of the command's files
+abbrev pub files_of : Options → List (List ℕ)
+files_of options = option_to_list (options opt.Leap) ++ option_to_list (options opt.Kernel) ++ option_to_list (options opt.Obs)
+    ++ option_to_list (options opt.New) ++ option_map_or over_names (options opt.Over) []
+
+-- ---- values
+
+-- the number of an option, or its default
+abbrev pub number_or : ℕ → OptionName → Options → ℕ
+number_or default name options = option_map_or (λ text. digits_value 10 text) (options name) default
+
+abbrev pub text_or : OptionName → Options → List ℕ
+text_or name options = unwrap_or (options name) []

@@ -1,0 +1,121 @@
+//! The ranges of the options.
+
+ghost use Rattle.std.specs.Prelude.{◌≡◌, length};
+ghost use Rattle.std.specs.Char.{is_ascii_digit};
+ghost use Rattle.std.specs.List.{list_all};
+ghost use Rattle.sk_words.specs.Request.{is_number as is_number_text, is_number_in as is_number_within, is_file_name as is_name_text, is_id_byte as is_id_code, is_in_range as is_within_range, number_of as number_of_text, over_names};
+
+use crate::tables::OptionName;
+
+const MOST_DIGITS: usize = 16;
+
+/// Each byte is a digit.
+fn are_digits(text: &[u8]) -> bool
+    ensures { result ≡ list_all is_ascii_digit text.now }
+{
+    text.iter().all(|byte| byte.is_ascii_digit())
+}
+
+/// The text is 1 to 16 digits.
+fn is_number(text: &[u8]) -> bool
+    ensures { result ≡ is_number_text text.now }
+{
+    1 <= text.len() && text.len() <= MOST_DIGITS && are_digits(text)
+}
+
+/// The number that 1 to 16 digits write.
+pub fn number_of(text: &str) -> Option<u64>
+    ensures { result ≡ number_of_text text.now }
+{
+    if is_number(text.as_bytes()) {
+        text.parse().ok()
+    } else {
+        None
+    }
+}
+
+/// The text is a number from `low` to `high`.
+fn is_number_in(low: u64, high: u64, text: &str) -> bool
+    ensures { result ≡ is_number_within low high text.now }
+{
+    match number_of(text) {
+        Some(number) => low <= number && number <= high,
+        None => false,
+    }
+}
+
+/// The text has one byte or more.
+fn is_file_name(text: &str) -> bool
+    ensures { result ≡ is_name_text text.now }
+{
+    !text.is_empty()
+}
+
+/// The byte may stand in a kernel ID.
+fn is_id_byte(byte: u8) -> bool
+    ensures { result ≡ is_id_code byte }
+{
+    (33..=126).contains(&byte) && !matches!(byte, b',' | b'(' | b')' | b'\'')
+}
+
+/// Each byte may stand in a kernel ID.
+fn are_id_bytes(text: &[u8]) -> bool
+    ensures { result ≡ list_all is_id_code text.now }
+{
+    text.iter().all(|byte| is_id_byte(*byte))
+}
+
+/// The text may be a kernel ID.
+fn is_id(text: &[u8]) -> bool
+    ensures { result ≡ is_within_range OptionName.Id text.now }
+{
+    1 <= text.len() && text.len() <= 79 && are_id_bytes(text)
+}
+
+/// Each name between commas has one byte or more.
+fn are_named(text: &str) -> bool
+    ensures { result ≡ list_all is_name_text (over_names text.now) }
+{
+    text.split(',').all(|name| !name.is_empty())
+}
+
+/// How many names stand between commas.
+fn count_names(text: &str) -> usize
+    ensures { result ≡ length (over_names text.now) }
+{
+    text.split(',').count()
+}
+
+/// The text is 1 to 16 file names, joined by commas.
+fn are_file_names(text: &str) -> bool
+    ensures { result ≡ is_within_range OptionName.Over text.now }
+{
+    are_named(text) && count_names(text) <= 16
+}
+
+/// The text is in the range of the option.
+pub fn is_in_range(name: OptionName, text: &str) -> bool
+    ensures { result ≡ is_within_range name text.now }
+{
+    match name {
+        OptionName::Leap => is_file_name(text),
+        OptionName::Kernel => is_file_name(text),
+        OptionName::Obs => is_file_name(text),
+        OptionName::Sc => is_number_in(1, 999_999_999, text),
+        OptionName::TolNs => is_number_in(1, 60_000_000_000, text),
+        OptionName::RateDecimals => is_number_in(1, 15, text),
+        OptionName::BandPpm => is_number_in(1, 100_000, text),
+        OptionName::SlipNs => is_number_in(0, 60_000_000_000, text),
+        OptionName::Hold => is_number_in(0, 9_007_199_254_740_991, text),
+        OptionName::Id => is_id(text.as_bytes()),
+        OptionName::Clock => true,
+        OptionName::Seed => is_number_in(0, 4_294_967_295, text),
+        OptionName::Count => is_number_in(1, 100_000, text),
+        OptionName::Reject => is_number_in(0, 100_000, text),
+        OptionName::Time => true,
+        OptionName::New => is_file_name(text),
+        OptionName::Over => are_file_names(text),
+        OptionName::From => is_number_in(0, 9_007_199_254_740_991, text),
+        OptionName::To => is_number_in(0, 9_007_199_254_740_991, text),
+    }
+}

@@ -1,7 +1,0 @@
-use Rattle.std.proofs.Common.{◌≡◌, [], ◌∷◌, ◌++◌}
-use Rattle.std.specs.Prelude.{codes, decimal}
-use Rattle.station.proofs.Behind.{both}
-use Rattle.station.proofs.pieces.push_word_numbered.Goals as goal
-
-pub returns-clause-words : goal.returns-clause-words
-returns-clause-words c = both c.args.line.now c.push_word.new.line c.push_numbered.new.line (c.args.a.now ∷ []) (c.args.b.now ∷ decimal c.args.number ∷ []) c.push_word.ensures.words c.push_numbered.ensures.words

@@ -1,8 +1,0 @@
-use Rattle.std.proofs.Common.{◌≡◌, [], ◌∷◌, ◌++◌}
-use Rattle.std.specs.Prelude.{codes, decimal}
-use Rattle.station.specs.Notes.{clock_word_words}
-use Rattle.station.proofs.Behind.{both}
-use Rattle.station.proofs.words.push_clock_stop.Goals as goal
-
-pub returns-clause-words : goal.returns-clause-words
-returns-clause-words c = both c.args.line.now c.push_word.new.line c.push_clock_word.new.line (codes "Clock" ∷ []) (clock_word_words c.args.fault) c.push_word.ensures.words c.push_clock_word.ensures.words

@@ -1,8 +1,0 @@
-use Rattle.std.proofs.Common.{◌≡◌, [], ◌∷◌, ◌++◌}
-use Rattle.std.specs.Prelude.{codes, decimal}
-use Rattle.station.specs.Notes.{code_words}
-use Rattle.station.proofs.Behind.{both}
-use Rattle.station.proofs.words.push_code_refused.Goals as goal
-
-pub returns-clause-words : goal.returns-clause-words
-returns-clause-words c = both c.args.line.now c.push_numbered_word.new.line c.push_code.new.line (codes "Record" ∷ decimal c.args.number ∷ codes "CodeRefused" ∷ []) (code_words c.args.fault) c.push_numbered_word.ensures.words c.push_code.ensures.words

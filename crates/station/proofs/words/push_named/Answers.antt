@@ -1,7 +1,0 @@
-use Rattle.std.proofs.Common.{◌≡◌, ℕ, List, [], ◌∷◌, ◌++◌, subst}
-use Rattle.station.specs.Notes.{behind}
-use Rattle.station.proofs.words.push_named.Goals as goal
-
-pub returns-clause-words : goal.returns-clause-words
-returns-clause-words c =
-    subst (λ (w : List ℕ). c.push_two.new.line ≡ c.args.line.now ++ behind (c.args.word.now ∷ w ∷ [])) c.word.ensures c.push_two.ensures.words
