@@ -313,3 +313,19 @@ IsFitExact fault = Unit {0}
 abbrev pub IsToldExactly : Status → Type 0
 IsToldExactly (NotPublished fault) = IsFitExact fault
 IsToldExactly status = Unit {0}
+
+-- Want of memory has a status of its own, and no other status carries it.
+abbrev pub CarriesNoMemory : Status → Type 0
+CarriesNoMemory (LeapRefused (leap_stop.Grammar grammar.NoMemory)) = ⊥
+CarriesNoMemory (LeapRefused (leap_stop.Pool pool.NoMemory)) = ⊥
+CarriesNoMemory (LeapRefused (leap_stop.Leap leap.NoMemory)) = ⊥
+CarriesNoMemory (KernelRefused (kernel_stop.Grammar grammar.NoMemory)) = ⊥
+CarriesNoMemory (KernelRefused (kernel_stop.Pool pool.NoMemory)) = ⊥
+CarriesNoMemory (KernelRefused (kernel_stop.Clock clock.NoMemory)) = ⊥
+CarriesNoMemory (KernelRefused (kernel_stop.Triples triples.NoMemory)) = ⊥
+CarriesNoMemory (ObservationRefused (obs_stop.Record obs.NoMemory)) = ⊥
+CarriesNoMemory (NotPublished fit.NoMemory) = ⊥
+CarriesNoMemory (NewRefused (text_stop.Grammar grammar.NoMemory)) = ⊥
+CarriesNoMemory (ExcerptRefused excerpt.NoMemory) = ⊥
+CarriesNoMemory (OverRefused place (text_stop.Grammar grammar.NoMemory)) = ⊥
+CarriesNoMemory status = Unit {0}

@@ -5,6 +5,8 @@ mod names;
 mod note;
 mod pieces;
 mod status;
+#[cfg(test)]
+mod tests;
 mod words;
 
 pub use note::{line_for, write_note};

@@ -15,7 +15,7 @@ use Rattle.sk_words.specs.Request.{Options, is_number, is_in_range, is_out_of_ra
 use Rattle.sk_words.specs.Asked.{AsksFor, NeedsNumber}
 
 -- the test is false of each
-abbrev Fails : {A : Type 0} → (A → Bool) → List A → Type 0
+abbrev pub Fails : {A : Type 0} → (A → Bool) → List A → Type 0
 Fails p [] = Unit {0}
 Fails p (x ∷ xs) = (p x ≡ false) × Fails p xs
 
@@ -23,11 +23,11 @@ past : {A : Type 0} (b : Bool) (x : A) (rest : Option A) → cond b (Some x) res
 past true x rest h = cc
 past false x rest h = (refl, h)
 
-none_found : {A : Type 0} (p : A → Bool) (xs : List A) → find p xs ≡ None → Fails p xs
+pub none_found : {A : Type 0} (p : A → Bool) (xs : List A) → find p xs ≡ None → Fails p xs
 none_found p [] h = tt
 none_found p (x ∷ xs) h = let k = past (p x) x (find p xs) h in (k.0, none_found p xs k.1)
 
-no_fault : (m o : Option OptionName) → option_map_or (λ name. Some (NeedOption name)) m (option_map (λ name. OutOfRange name) o) ≡ None → (m ≡ None) × (o ≡ None)
+pub no_fault : (m o : Option OptionName) → option_map_or (λ name. Some (NeedOption name)) m (option_map (λ name. OutOfRange name) o) ≡ None → (m ≡ None) × (o ≡ None)
 no_fault (Some name) o h = cc
 no_fault None (Some name) h = cc
 no_fault None None h = (refl, refl)
@@ -52,7 +52,7 @@ number_part (Some text) h k =
     let high : digits_value 10 text ≤ 999999999 = search rules in
     (digits_value 10 text, ap (λ b. cond b (Some (digits_value 10 text)) None) p.0, low, high, refl)
 
-asked_fault : (rows : List Row) (command : Command) → AsksFor rows command → options_fault command (options_of rows) ≡ None
+pub asked_fault : (rows : List Row) (command : Command) → AsksFor rows command → options_fault command (options_of rows) ≡ None
 asked_fault rows command h =
     sym (ap (λ (o : Option Command). option_map_or (λ command. options_fault command (options_of rows)) o (Some UnknownCommand)) h.is_command) ∙ h.none
 

@@ -1,6 +1,6 @@
 -- What the stages of a run refuse is no end of a run that wrote.
-use Rattle.std.proofs.Common.{◌≡◌, ◌⊎◌, ℕ, List, Option, Some, None, Result, Ok, Err, [], ◌∷◌, refl, sym, subst, inl, inr}
-use Rattle.std.specs.Prelude.{codes}
+use Rattle.std.proofs.Common.{◌≡◌, ◌⊎◌, ℕ, ℤ, ◌+◌, ◌++◌, List, Option, Some, None, Result, Ok, Err, [], ◌∷◌, refl, sym, subst, inl, inr}
+use Rattle.std.specs.Prelude.{codes, unwrap_or, IsSomeAnd}
 use Rattle.sk_status.specs.declared.status.Status.{Status}
 use Rattle.sk_status.specs.declared.status.Status.TheVariants.{Done, WordsRefused, LeapRefused, KernelRefused, ObservationRefused, NotPublished, ReadFault, WriteFault, NoMemory, TimeRefused, AuditNo, NewRefused, ExcerptRefused, OverRefused}
 use Rattle.sk_words.specs.declared.tables.Command.{Command}
@@ -12,13 +12,28 @@ use Rattle.sk_status.specs.declared.status.LeapStop.TheVariants as leap_stop
 use Rattle.sk_status.specs.declared.status.KernelStop.TheVariants as kernel_stop
 use Rattle.sk_status.specs.declared.status.ObsStop.TheVariants as obs_stop
 use Rattle.sk_grammar.specs.Document.{DocView}
-use Rattle.sk_grammar.specs.Variables.{VariableView}
+use Rattle.sk_grammar.specs.Variables.{VariableView, items_of, values_at, IsMixedAppend}
 use Rattle.sk_grammar.specs.Canonical.{ended_by_line_feeds, canonical_text}
 use Rattle.sk_leap.specs.declared.pair.LeapPair.{LeapPair}
-use Rattle.sk_clock.specs.Clock.{ClockView}
-use Rattle.sk_clock.specs.Row.{RowView}
-use Rattle.sk_triples.specs.Kernel.{TriplesView}
-use Rattle.sk_checks.specs.Checks.{Judges}
+use Rattle.sk_clock.specs.Clock.{ClockView, total}
+use Rattle.sk_clock.specs.Row.{RowView, IsObservedTime}
+use Rattle.sk_triples.specs.Kernel.{TriplesView, range_checks}
+use Rattle.sk_checks.specs.Checks.{Check, ◌⇒◌, carried, Judges, FirstRefuses, Refuses, each_after}
+use Rattle.sk_grammar.specs.declared.fault.GrammarFault.{GrammarFault}
+use Rattle.sk_grammar.specs.declared.fault.GrammarFault.TheVariants as grammar
+use Rattle.sk_pool.specs.declared.pool.PoolFault.{PoolFault}
+use Rattle.sk_pool.specs.declared.pool.PoolFault.TheVariants.{AppendMixed}
+use Rattle.sk_pool.specs.Pool.{pool_checks}
+use Rattle.sk_leap.specs.declared.table.LeapFault.{LeapFault}
+use Rattle.sk_leap.specs.Kernel.{leap_checks, entry_checks, entries_of, delta_at}
+use Rattle.sk_clock.specs.declared.fault.ClockKernelFault.{ClockKernelFault}
+use Rattle.sk_clock.specs.Kernel.{clock_checks}
+use Rattle.sk_triples.specs.declared.triple.TriplesFault.{TriplesFault}
+use Rattle.sk_triples.specs.Coefficients.{triples_checks, row_checks, rows_of, values_for}
+use Rattle.sk_obs.specs.declared.fault.ObsFault.{ObsFault}
+use Rattle.sk_obs.specs.declared.fault.ObsFault.TheVariants.{BadDelay, TimeRange, OutOfOrder}
+use Rattle.sk_obs.specs.File.{records_of, file_checks, record_checks, own_checks, time_of, delay_of, IsDelay, IsObserved, IsNotAbove}
+use Rattle.sk_obs.specs.Words.{TimeWord, TdtNumber, UtcCode, CucHex, CdsHex, OtherWord, time_word, time_checks}
 use Rattle.sk_report.specs.Report.{table_checks}
 use Rattle.sk_report.specs.declared.fault.ReportFault.{ReportFault}
 use Rattle.sk_report.specs.declared.fault.ReportFault.TheVariants as report_fault
@@ -32,7 +47,7 @@ use Rattle.station.specs.Output.{plain_table}
 use Rattle.station.proofs.Tails.{after_leap, after_kernel, after_observations, after_lines}
 use Rattle.station.specs.Ending.{Ends}
 use Rattle.sk_status.specs.Written.{Written, IsUntouched}
-use Rattle.sk_status.specs.Notes.{IsToldExactly}
+use Rattle.sk_status.specs.Notes.{IsToldExactly, CarriesNoMemory}
 
 -- the end of a run that wrote, or that has no publication
 abbrev Wrote : Status → Type 0
@@ -41,111 +56,210 @@ Wrote WriteFault = Unit {0}
 Wrote (NotPublished fault) = Unit {0}
 Wrote status = ⊥
 
-abbrev Never : {A : Type 0} → Stage A → Type 0
-Never stage = (status : Status) → Wrote status → stage (Err status) → ⊥
+-- the end of a run that was refused: nothing was written, and want of memory is not the reason
+abbrev pub Stands : Status → Type 0
+Stands status = (Wrote status → ⊥) × CarriesNoMemory status
 
-never_then : {A B : Type 0} (first : Stage A) (next : A → Stage B) → Never first → ((a : A) → Never (next a)) → Never (first >>= next)
-never_then first next f n status w (inl h) = f status w h
-never_then first next f n status w (inr h) = n h.0 status w h.2
+standing : (⊥ → ⊥) × Unit {0}
+standing = (λ w. w, tt)
 
-never_judged : {A F : Type 0} (Answers : Result A F → Type 0) (status_of : F → Status) → ((fault : F) → Wrote (status_of fault) → ⊥) → Never (judged Answers status_of)
-never_judged Answers status_of n status w h = n h.0 (subst Wrote h.2 w)
+abbrev Always : {A : Type 0} → Stage A → Type 0
+Always stage = (status : Status) → stage (Err status) → Stands status
 
-never_gives : {A : Type 0} (a : A) → Never (gives a)
-never_gives a status w h = cc
+always_then : {A B : Type 0} (first : Stage A) (next : A → Stage B) → Always first → ((a : A) → Always (next a)) → Always (first >>= next)
+always_then first next f n status (inl h) = f status h
+always_then first next f n status (inr h) = n h.0 status h.2
 
-long_kind : (kind : FileKind) → Wrote (too_long kind) → ⊥
-long_kind Leap w = w
-long_kind Kernel w = w
-long_kind Observations w = w
-long_kind New w = w
-long_kind (Over place) w = w
+always_judged : {A F : Type 0} (Answers : Result A F → Type 0) (status_of : F → Status) → ((fault : F) → Answers (Err fault) → Stands (status_of fault)) → Always (judged Answers status_of)
+always_judged Answers status_of n status h = subst Stands (sym h.2) (n h.0 h.1)
 
-never_reads : (source : Source) (kind : FileKind) (name : List ℕ) → Never (reads source kind name)
-never_reads source kind name status w (inl h) = subst Wrote h.0 w
-never_reads source kind name status w (inr h) = long_kind kind (subst Wrote h.0 w)
+always_gives : {A : Type 0} (a : A) → Always (gives a)
+always_gives a status h = cc
 
-never_leap_named : (source : Source) (o : Option (List ℕ)) → Never (files.leap_named source o)
-never_leap_named source None = never_gives {A = List LeapPair} []
-never_leap_named source (Some name) =
-    never_then (files.document source Leap name (refused_by Leap)) files.leap_meaning
-    (never_then (reads source Leap name) (λ bytes. judged (files.DocOf bytes) (refused_by Leap)) (never_reads source Leap name)
-    (λ bytes. never_judged (files.DocOf bytes) (refused_by Leap) (λ fault w. w)))
-    (λ doc. never_then (files.leap_pool doc) files.leap_table
-    (never_judged (files.PoolOf doc) (λ f. LeapRefused (leap_stop.Pool f)) (λ fault w. w))
-    (λ variables. never_judged (files.LeapOf variables) (λ f. LeapRefused (leap_stop.Leap f)) (λ fault w. w)))
+-- ---- checks
 
-never_meaning : (sc : ℕ) (doc : DocView) → Never (files.kernel_meaning sc doc)
-never_meaning sc doc =
-    never_then (files.kernel_pool doc) (λ variables. files.kernel_clock variables sc >>= (λ (clock : ClockView). files.kernel_triples variables clock sc >>= (λ (triples : TriplesView). gives (record { doc = doc; clock = clock; triples = triples }))))
-    (never_judged (files.PoolOf doc) (λ f. KernelRefused (kernel_stop.Pool f)) (λ fault w. w))
-    (λ variables. never_then (files.kernel_clock variables sc) (λ clock. files.kernel_triples variables clock sc >>= (λ (triples : TriplesView). gives (record { doc = doc; clock = clock; triples = triples })))
-    (never_judged (files.ClockOf variables sc) (λ f. KernelRefused (kernel_stop.Clock f)) (λ fault w. w))
-    (λ clock. never_then (files.kernel_triples variables clock sc) (λ triples. gives (record { doc = doc; clock = clock; triples = triples }))
-    (never_judged (files.TriplesOf variables clock sc) (λ f. KernelRefused (kernel_stop.Triples f)) (λ fault w. w))
-    (λ triples. never_gives (record { doc = doc; clock = clock; triples = triples }))))
+-- what holds of each fault of a check
+abbrev Says : {F : Type 0} → (F → Type 0) → Check F → Type 0
+Says Q (p ⇒ own) = Q own
+Says Q (carried {G} P own) = (inner : G) → Q (own inner)
 
-never_document : (source : Source) (options : Options) → Never (files.kernel_document source options)
-never_document source options =
-    never_then (reads source Kernel (text_or opt.Kernel options)) (λ bytes. judged (files.DocOf bytes) (refused_by Kernel)) (never_reads source Kernel (text_or opt.Kernel options))
-    (λ bytes. never_judged (files.DocOf bytes) (refused_by Kernel) (λ fault w. w))
+abbrev AllSay : {F : Type 0} → (F → Type 0) → List (Check F) → Type 0
+AllSay Q [] = Unit {0}
+AllSay Q (check ∷ checks) = Says Q check × AllSay Q checks
 
-never_kernel : (source : Source) (options : Options) → Never (files.kernel_file source options)
-never_kernel source options =
-    never_then (files.kernel_document source options) (files.kernel_meaning (sc_of options))
-    (never_document source options)
-    (never_meaning (sc_of options))
+check_said : {F : Type 0} (Q : F → Type 0) (check : Check F) (fault : F) → Says Q check → Refuses check fault → Q fault
+check_said Q (p ⇒ own) fault said h = subst Q h.1 said
+check_said Q (carried P own) fault said h = subst Q h.2 (said h.0)
 
-never_observations : (source : Source) (options : Options) (clock : ClockView) (leap : List LeapPair) → Never (files.observation_file source options clock leap)
-never_observations source options clock leap =
-    never_then (reads source Observations (text_or opt.Obs options)) (λ bytes. files.observed bytes clock leap)
-    (never_reads source Observations (text_or opt.Obs options))
-    (λ bytes. never_judged (files.ObservationsOf bytes clock leap) (λ f. ObservationRefused (obs_stop.Record f)) (λ fault w. w))
+said_of : {F : Type 0} (Q : F → Type 0) (checks : List (Check F)) (fault : F) → AllSay Q checks → FirstRefuses checks fault → Q fault
+said_of Q [] fault said h = absurd h
+said_of Q (check ∷ checks) fault said (inl h) = check_said Q check fault said.0 h
+said_of Q (check ∷ checks) fault said (inr h) = said_of Q checks fault said.1 h.1
 
-never_report : (fault : ReportFault) → Wrote (status_of_report fault) → ⊥
-never_report (report_fault.Range number fault) w = w
-never_report report_fault.NoMemory w = w
+say_append : {F : Type 0} (Q : F → Type 0) (a b : List (Check F)) → AllSay Q a → AllSay Q b → AllSay Q (a ++ b)
+say_append Q [] b h k = k
+say_append Q (check ∷ a) b h k = (h.0, say_append Q a b h.1 k)
 
-never_tabled : (kernel : KernelRead) (rows : List RowView) → Never (tabled kernel rows)
-never_tabled kernel rows =
-    never_then (all_covered kernel.triples rows) (λ covers. gives (plain_table kernel rows))
-    (never_judged (Judges (table_checks kernel.triples rows) (λ (covered : Unit {0}). Unit {0})) status_of_report never_report)
-    (λ covers. never_gives (plain_table kernel rows))
+say_each : {X F : Type 0} (Q : F → Type 0) (before : Option X) (n : ℕ) (checks : Option X → ℕ → X → List (Check F)) (xs : List X)
+    → ((before : Option X) (n : ℕ) (x : X) → AllSay Q (checks before n x)) → AllSay Q (each_after before n checks xs)
+say_each Q before n checks [] said = tt
+say_each Q before n checks (x ∷ xs) said = say_append Q (checks before n x) (each_after (Some x) (n + 1) checks xs) (said before n x) (say_each Q (Some x) (n + 1) checks xs said)
 
-never_residuals : (source : Source) (options : Options) → Never (residuals source options)
-never_residuals source options =
-    never_then (files.leap_file source options) (after_leap source options) (never_leap_named source (options opt.Leap))
-    (λ leap. never_then (files.kernel_file source options) (after_kernel source options leap) (never_kernel source options)
-    (λ kernel. never_then (files.observation_file source options kernel.clock leap) (after_observations kernel) (never_observations source options kernel.clock leap)
-    (λ rows. never_then (tabled kernel rows) after_lines (never_tabled kernel rows) (λ lines. never_gives (ended_by_line_feeds lines)))))
+-- ---- files
 
-never_normal : (source : Source) (options : Options) → Never (normal source options)
-never_normal source options =
-    never_then (files.kernel_document source options) (λ doc. gives (canonical_text doc)) (never_document source options) (λ doc. never_gives (canonical_text doc))
+long_stands : (kind : FileKind) → Stands (too_long kind)
+long_stands Leap = standing
+long_stands Kernel = standing
+long_stands Observations = standing
+long_stands New = standing
+long_stands (Over place) = standing
 
-never_command : (command : Command) (source : Source) (options : Options) → Never (outcome_of command source options)
-never_command Residuals source options = never_residuals source options
-never_command Normal source options = never_normal source options
+always_reads : (source : Source) (kind : FileKind) (name : List ℕ) → Always (reads source kind name)
+always_reads source kind name status (inl h) = subst Stands (sym h.0) standing
+always_reads source kind name status (inr h) = subst Stands (sym h.0) (long_stands kind)
 
-never_requested : (words : List (List ℕ)) → Never (requested words)
-never_requested words = never_judged (WordsAsk words) WordsRefused (λ fault w. w)
+doc_stands : (kind : FileKind) (bytes : List ℕ) (fault : GrammarFault) → files.DocOf bytes (Err fault) → Stands (refused_by kind fault)
+doc_stands Leap bytes (grammar.At line reason) h = standing
+doc_stands Kernel bytes (grammar.At line reason) h = standing
+doc_stands Observations bytes (grammar.At line reason) h = standing
+doc_stands New bytes (grammar.At line reason) h = standing
+doc_stands (Over place) bytes (grammar.At line reason) h = standing
+doc_stands kind bytes grammar.NoMemory h = absurd h
 
-never_outcome : (words : List (List ℕ)) (source : Source) → Never (outcome words source)
-never_outcome words source =
-    never_then (requested (codes "station" ∷ words)) (λ request. outcome_of request.command source request.options) (never_requested (codes "station" ∷ words))
-    (λ request. never_command request.command source request.options)
+always_document : (source : Source) (kind : FileKind) (name : List ℕ) → Always (files.document source kind name (refused_by kind))
+always_document source kind name =
+    always_then (reads source kind name) (λ bytes. judged (files.DocOf bytes) (refused_by kind)) (always_reads source kind name)
+    (λ bytes. always_judged (files.DocOf bytes) (refused_by kind) (doc_stands kind bytes))
+
+pool_stands : (doc : DocView) (status_of : PoolFault → Status) → ((n : ℕ) → Stands (status_of (AppendMixed n))) → (fault : PoolFault) → files.PoolOf doc (Err fault) → Stands (status_of fault)
+pool_stands doc status_of each fault h =
+    said_of (λ (f : PoolFault). Stands (status_of f)) (pool_checks doc) fault
+    (say_each (λ (f : PoolFault). Stands (status_of f)) None 1 (λ before n item. IsMixedAppend (items_of doc) n ⇒ AppendMixed n ∷ []) (items_of doc) (λ before n item. (each n, tt))) h
+
+leap_stands : (variables : List VariableView) (fault : LeapFault) → files.LeapOf variables (Err fault) → Stands (LeapRefused (leap_stop.Leap fault))
+leap_stands variables fault h =
+    let Q : LeapFault → Type 0 = λ f. Stands (LeapRefused (leap_stop.Leap f)) in
+    said_of Q (leap_checks variables) fault
+    (standing, (standing, (standing, (standing, (say_each Q None 1 entry_checks (entries_of (unwrap_or (values_at delta_at variables) [])) (λ before n entry. (standing, (standing, (standing, tt))))))))) h
+
+always_leap_named : (source : Source) (o : Option (List ℕ)) → Always (files.leap_named source o)
+always_leap_named source None = always_gives {A = List LeapPair} []
+always_leap_named source (Some name) =
+    always_then (files.document source Leap name (refused_by Leap)) files.leap_meaning (always_document source Leap name)
+    (λ doc. always_then (files.leap_pool doc) files.leap_table
+    (always_judged (files.PoolOf doc) (λ f. LeapRefused (leap_stop.Pool f)) (pool_stands doc (λ f. LeapRefused (leap_stop.Pool f)) (λ n. standing)))
+    (λ variables. always_judged (files.LeapOf variables) (λ f. LeapRefused (leap_stop.Leap f)) (leap_stands variables)))
+
+clock_stands : (variables : List VariableView) (sc : ℕ) (fault : ClockKernelFault) → files.ClockOf variables sc (Err fault) → Stands (KernelRefused (kernel_stop.Clock fault))
+clock_stands variables sc fault h =
+    let Q : ClockKernelFault → Type 0 = λ f. Stands (KernelRefused (kernel_stop.Clock f)) in
+    said_of Q (clock_checks variables sc) fault
+    (standing, (standing, (standing, (standing, (standing, (standing, (standing, (standing, (standing, (standing, (standing, (standing, (standing, (standing, (standing, tt))))))))))))))) h
+
+triples_stand : (variables : List VariableView) (clock : ClockView) (sc : ℕ) (fault : TriplesFault) → files.TriplesOf variables clock sc (Err fault) → Stands (KernelRefused (kernel_stop.Triples fault))
+triples_stand variables clock sc fault h =
+    let Q : TriplesFault → Type 0 = λ f. Stands (KernelRefused (kernel_stop.Triples f)) in
+    said_of Q (triples_checks variables clock sc) fault
+    (standing, (standing, (standing, (say_each Q None 1 (row_checks (total clock)) (rows_of (values_for variables sc)) (λ before n row. (standing, (standing, (standing, (standing, tt))))))))) h
+
+always_meaning : (sc : ℕ) (doc : DocView) → Always (files.kernel_meaning sc doc)
+always_meaning sc doc =
+    always_then (files.kernel_pool doc) (λ variables. files.kernel_clock variables sc >>= (λ (clock : ClockView). files.kernel_triples variables clock sc >>= (λ (triples : TriplesView). gives (record { doc = doc; clock = clock; triples = triples }))))
+    (always_judged (files.PoolOf doc) (λ f. KernelRefused (kernel_stop.Pool f)) (pool_stands doc (λ f. KernelRefused (kernel_stop.Pool f)) (λ n. standing)))
+    (λ variables. always_then (files.kernel_clock variables sc) (λ clock. files.kernel_triples variables clock sc >>= (λ (triples : TriplesView). gives (record { doc = doc; clock = clock; triples = triples })))
+    (always_judged (files.ClockOf variables sc) (λ f. KernelRefused (kernel_stop.Clock f)) (clock_stands variables sc))
+    (λ clock. always_then (files.kernel_triples variables clock sc) (λ triples. gives (record { doc = doc; clock = clock; triples = triples }))
+    (always_judged (files.TriplesOf variables clock sc) (λ f. KernelRefused (kernel_stop.Triples f)) (triples_stand variables clock sc))
+    (λ triples. always_gives (record { doc = doc; clock = clock; triples = triples }))))
+
+always_kernel : (source : Source) (options : Options) → Always (files.kernel_file source options)
+always_kernel source options =
+    always_then (files.kernel_document source options) (files.kernel_meaning (sc_of options))
+    (always_document source Kernel (text_or opt.Kernel options))
+    (always_meaning (sc_of options))
+
+-- ---- observations
+
+abbrev RecordStands : ObsFault → Type 0
+RecordStands fault = Stands (ObservationRefused (obs_stop.Record fault))
+
+time_said : (pairs : List LeapPair) (n : ℕ) (word : TimeWord) → AllSay RecordStands (time_checks pairs n word)
+time_said pairs n (TdtNumber bytes) = (standing, tt)
+time_said pairs n (UtcCode text) = (standing, ((λ inner. standing), tt))
+time_said pairs n (CucHex text) = (standing, ((λ inner. standing), (standing, tt)))
+time_said pairs n (CdsHex text) = (standing, ((λ inner. standing), ((λ inner. standing), tt)))
+time_said pairs n OtherWord = (standing, tt)
+
+record_said : (clock : ClockView) (pairs : List LeapPair) (before : Option (List (List ℕ))) (n : ℕ) (fields : List (List ℕ)) → AllSay RecordStands (record_checks clock pairs before n fields)
+record_said clock pairs before n fields =
+    let later : List (Check ObsFault) =
+    ((delay : ℕ) → ¬ IsDelay (delay_of fields) delay) ⇒ BadDelay n ∷ ((time : ℤ) × IsObserved pairs fields time × ¬ IsObservedTime time) ⇒ TimeRange n ∷ [] in
+    let observed = say_append RecordStands (time_checks pairs n (time_word (time_of fields))) later (time_said pairs n (time_word (time_of fields))) (standing, (standing, tt)) in
+    say_append RecordStands (own_checks clock pairs n fields) (IsSomeAnd before (λ previous. IsNotAbove clock previous fields) ⇒ OutOfOrder n ∷ [])
+    (standing, (standing, (standing, ((λ inner. standing), observed)))) (standing, tt)
+
+file_said : (clock : ClockView) (pairs : List LeapPair) (rows : List (List (List ℕ))) → AllSay RecordStands (file_checks clock pairs rows)
+file_said clock pairs [] = (standing, tt)
+file_said clock pairs (header ∷ rows) = (standing, say_each RecordStands None 2 (record_checks clock pairs) rows (record_said clock pairs))
+
+always_observations : (source : Source) (options : Options) (clock : ClockView) (leap : List LeapPair) → Always (files.observation_file source options clock leap)
+always_observations source options clock leap =
+    always_then (reads source Observations (text_or opt.Obs options)) (λ bytes. files.observed bytes clock leap)
+    (always_reads source Observations (text_or opt.Obs options))
+    (λ bytes. always_judged (files.ObservationsOf bytes clock leap) (λ f. ObservationRefused (obs_stop.Record f))
+    (λ fault h. said_of RecordStands (file_checks clock leap (records_of bytes)) fault (file_said clock leap (records_of bytes)) h))
+
+-- ---- the commands
+
+report_stands : (triples : TriplesView) (rows : List RowView) (fault : ReportFault) → Judges {T = Unit {0}} (table_checks triples rows) (λ (covered : Unit {0}). Unit {0}) (Err fault) → Stands (status_of_report fault)
+report_stands triples rows fault h =
+    let Q : ReportFault → Type 0 = λ f. Stands (status_of_report f) in
+    said_of Q (table_checks triples rows) fault
+    (say_each Q None 0 (λ before n row. carried (FirstRefuses (range_checks triples row.tick)) (report_fault.Range row.number) ∷ []) rows (λ before n row. (λ inner. standing, tt))) h
+
+always_tabled : (kernel : KernelRead) (rows : List RowView) → Always (tabled kernel rows)
+always_tabled kernel rows =
+    always_then (all_covered kernel.triples rows) (λ covers. gives (plain_table kernel rows))
+    (always_judged (Judges (table_checks kernel.triples rows) (λ (covered : Unit {0}). Unit {0})) status_of_report (report_stands kernel.triples rows))
+    (λ covers. always_gives (plain_table kernel rows))
+
+always_residuals : (source : Source) (options : Options) → Always (residuals source options)
+always_residuals source options =
+    always_then (files.leap_file source options) (after_leap source options) (always_leap_named source (options opt.Leap))
+    (λ leap. always_then (files.kernel_file source options) (after_kernel source options leap) (always_kernel source options)
+    (λ kernel. always_then (files.observation_file source options kernel.clock leap) (after_observations kernel) (always_observations source options kernel.clock leap)
+    (λ rows. always_then (tabled kernel rows) after_lines (always_tabled kernel rows) (λ lines. always_gives (ended_by_line_feeds lines)))))
+
+always_normal : (source : Source) (options : Options) → Always (normal source options)
+always_normal source options =
+    always_then (files.kernel_document source options) (λ doc. gives (canonical_text doc)) (always_document source Kernel (text_or opt.Kernel options)) (λ doc. always_gives (canonical_text doc))
+
+always_command : (command : Command) (source : Source) (options : Options) → Always (outcome_of command source options)
+always_command Residuals source options = always_residuals source options
+always_command Normal source options = always_normal source options
+
+always_outcome : (words : List (List ℕ)) (source : Source) → Always (outcome words source)
+always_outcome words source =
+    always_then (requested (codes "station" ∷ words)) (λ request. outcome_of request.command source request.options)
+    (always_judged (WordsAsk (codes "station" ∷ words)) WordsRefused (λ fault h. standing))
+    (λ request. always_command request.command source request.options)
 
 -- a run that was refused, and wrote nothing
 pub ends_refused : {X : Type 0} (view : X → List ℕ) (words : List (List ℕ)) (source : Source) (out : Written) (status : Status)
     → MayAnswer view (outcome words source) (Err status) → IsUntouched out → Ends (outcome words source) out status
-ends_refused view words source out Done h u = absurd (never_outcome words source Done tt h)
-ends_refused view words source out WriteFault h u = absurd (never_outcome words source WriteFault tt h)
+ends_refused view words source out Done h u = absurd ((always_outcome words source Done h).0 tt)
+ends_refused view words source out WriteFault h u = absurd ((always_outcome words source WriteFault h).0 tt)
 ends_refused view words source out NoMemory h u = u
 ends_refused view words source out _ h u = (h, u)
 
 -- no command that is built publishes
 pub told_exactly : {X : Type 0} (view : X → List ℕ) (words : List (List ℕ)) (source : Source) (status : Status)
     → MayAnswer view (outcome words source) (Err status) → IsToldExactly status
-told_exactly view words source (NotPublished fault) h = absurd (never_outcome words source (NotPublished fault) tt h)
+told_exactly view words source (NotPublished fault) h = absurd ((always_outcome words source (NotPublished fault) h).0 tt)
 told_exactly view words source NoMemory h = tt
 told_exactly view words source _ h = tt
+
+pub no_memory_carried : {X : Type 0} (view : X → List ℕ) (words : List (List ℕ)) (source : Source) (status : Status)
+    → MayAnswer view (outcome words source) (Err status) → CarriesNoMemory status
+no_memory_carried view words source NoMemory h = tt
+no_memory_carried view words source _ h = (always_outcome words source _ h).1

@@ -151,20 +151,44 @@ fn residuals_of_a_plain_kernel(rt: HostRuntime) -> Result<(), Fail> {
     Ok(())
 }
 
+/// A leap second kernel of one pair.
+const LEAP: &str =
+    "\\begindata\nDELTET/DELTA_T_A = 32.184\nDELTET/DELTA_AT = ( 10 @1972-JAN-1 )\n\\begintext\n";
+
+const LEAP_WORDS: [&str; 5] = [
+    "residuals",
+    "--leap=l",
+    "--kernel=k",
+    "--obs=o",
+    "--sc=99",
+];
+
+/// The same files, and a leap second kernel before them.
+fn leap_files(alloc: Global) -> Result<Vec<(String, Vec<u8>)>, AllocError> {
+    let kernel: &[&str] = &[KERNEL, CLOCK, SHAPE, SPAN, TRIPLE];
+    let mut files = files(alloc, kernel, ROW)?;
+    files.push((
+        String::from_str(alloc, "l")?,
+        LEAP.as_bytes().to_vec(alloc)?,
+    ))?;
+    Ok(files)
+}
+
 #[test]
 fn each_call_of_the_depot_fails(rt: HostRuntime) -> Result<(), Fail> {
     let alloc = rt.alloc();
-    for call in 1..8u64 {
-        let words = texts(alloc, &WORDS)?;
-        let kernel: &[&str] = &[KERNEL, CLOCK, SHAPE, SPAN, TRIPLE];
+    for call in 1..11u64 {
+        let words = texts(alloc, &LEAP_WORDS)?;
         let failing = vec![in alloc; call]?;
-        let mut depot = MemoryDepot::new(files(alloc, kernel, ROW)?, Vec::new(alloc), failing);
+        let mut depot = MemoryDepot::new(leap_files(alloc)?, Vec::new(alloc), failing);
         let mut out = output(alloc, Vec::new(alloc))?;
         let mut notes = output(alloc, Vec::new(alloc))?;
         let status = run(alloc, &words, &mut depot, &mut out, &mut notes);
+        // A file is chosen, read, and read at its end.
         let (code, line) = match call {
-            1..=3 => (7, "refused;7;Kernel\n"),
-            4..=6 => (7, "refused;7;Observations\n"),
+            1..=3 => (7, "refused;7;Leap\n"),
+            4..=6 => (7, "refused;7;Kernel\n"),
+            7..=9 => (7, "refused;7;Observations\n"),
             _ => (0, ""),
         };
         assert_eq!(rt; status.code(), code, "at {call}");
@@ -193,14 +217,151 @@ fn each_call_of_the_output_fails(rt: HostRuntime) -> Result<(), Fail> {
 }
 
 #[test]
-fn a_kernel_of_one_byte_too_many(rt: HostRuntime) -> Result<(), Fail> {
+fn notes_that_fail_change_no_status(rt: HostRuntime) -> Result<(), Fail> {
+    let alloc = rt.alloc();
+    let words = texts(alloc, &["residuals", "--kernel=k"])?;
+    let mut depot = MemoryDepot::new(Vec::new(alloc), Vec::new(alloc), Vec::new(alloc));
+    let mut out = output(alloc, Vec::new(alloc))?;
+    let mut notes = output(alloc, vec![in alloc; 1]?)?;
+    let status = run(alloc, &words, &mut depot, &mut out, &mut notes);
+    assert_eq!(rt; status.code(), 2);
+    assert!(rt; notes.written().is_empty());
+    assert!(rt; out.written().is_empty());
+    Ok(())
+}
+
+#[test]
+fn pieces_change_nothing(rt: HostRuntime) -> Result<(), Fail> {
+    let alloc = rt.alloc();
+    for piece in [1, 2, 3, 7] {
+        let words = texts(alloc, &LEAP_WORDS)?;
+        let mut depot =
+            MemoryDepot::new(leap_files(alloc)?, vec![in alloc; piece]?, Vec::new(alloc));
+        let mut out = output(alloc, Vec::new(alloc))?;
+        let mut notes = output(alloc, Vec::new(alloc))?;
+        let status = run(alloc, &words, &mut depot, &mut out, &mut notes);
+        assert_eq!(rt; out.written(), TABLE.as_bytes());
+        assert_eq!(rt; status.code(), 0, "of {piece}");
+        assert!(rt; notes.written().is_empty());
+    }
+    Ok(())
+}
+
+/// The whole text of the plain kernel.
+fn whole_kernel(alloc: Global) -> Result<Vec<u8>, AllocError> {
+    let mut kernel = Vec::new(alloc);
+    for part in [KERNEL, CLOCK, SHAPE, SPAN, TRIPLE] {
+        kernel.extend_from_slice(part.as_bytes())?;
+    }
+    Ok(kernel)
+}
+
+/// The files of a kernel's first bytes, and of no observation.
+fn cut_files(alloc: Global, length: usize) -> Result<Vec<(String, Vec<u8>)>, AllocError> {
+    let mut kernel = whole_kernel(alloc)?;
+    kernel.truncate(length);
+    let mut files = Vec::new(alloc);
+    files.push((String::from_str(alloc, "k")?, kernel))?;
+    files.push((
+        String::from_str(alloc, "o")?,
+        HEADER.as_bytes().to_vec(alloc)?,
+    ))?;
+    Ok(files)
+}
+
+#[test]
+fn a_kernel_that_is_cut(rt: HostRuntime) -> Result<(), Fail> {
     let alloc = rt.alloc();
     let words = texts(alloc, &WORDS)?;
+    let length = whole_kernel(alloc)?.len();
+    for taken in 0..length + 1 {
+        let held = cut_files(alloc, taken)?;
+        let mut depot = MemoryDepot::new(held, Vec::new(alloc), Vec::new(alloc));
+        let mut out = output(alloc, Vec::new(alloc))?;
+        let mut notes = output(alloc, Vec::new(alloc))?;
+        let status = run(alloc, &words, &mut depot, &mut out, &mut notes);
+        let missing = length - taken;
+        let code = match missing {
+            0 | 1 | 11 | 12 => 0,
+            _ => 4,
+        };
+        assert_eq!(rt; status.code(), code, "at {taken}");
+        if 2 <= missing && missing <= 10 {
+            assert_eq!(rt; notes.written(), b"refused;4;Grammar;19;NoAssign\n".as_slice());
+        }
+    }
+    Ok(())
+}
+
+/// A kernel, and text lines of 4,000 bytes behind it, the last one not ended, up to so many bytes.
+fn long_kernel(alloc: Global, length: usize) -> Result<Vec<u8>, AllocError> {
+    let mut line = vec![in alloc; b'x'; 3_999]?;
+    line.push(b'\n')?;
+    let mut kernel = whole_kernel(alloc)?;
+    let free = length - kernel.len();
+    for _ in 0..free / line.len() {
+        kernel.extend_from_slice(&line)?;
+    }
+    kernel.extend_from_slice(&line[..free % line.len()])?;
+    Ok(kernel)
+}
+
+#[test]
+fn a_kernel_of_the_limit_and_one_byte_more(rt: HostRuntime) -> Result<(), Fail> {
+    let alloc = rt.alloc();
+    let words = texts(alloc, &["normal", "--kernel=k"])?;
+    for (length, code, line) in [
+        (16_777_216, 0, ""),
+        (16_777_217, 4, "refused;4;TooLong\n"),
+    ] {
+        let kernel = long_kernel(alloc, length)?;
+        let mut held = Vec::new(alloc);
+        held.push((String::from_str(alloc, "k")?, kernel))?;
+        let mut depot = MemoryDepot::new(held, Vec::new(alloc), Vec::new(alloc));
+        let room = vec![in alloc; 0; 16_777_217]?;
+        let mut out = MemorySink::new(Vec::new(alloc), Vec::new(alloc), room);
+        let mut notes = output(alloc, Vec::new(alloc))?;
+        let status = run(alloc, &words, &mut depot, &mut out, &mut notes);
+        assert_eq!(rt; status.code(), code, "of {length}");
+        assert_eq!(rt; notes.written(), line.as_bytes());
+        // The text is canonical but for the end of its last line.
+        assert_eq!(rt; out.written().len(), if code == 0 { length + 1 } else { 0 });
+    }
+    Ok(())
+}
+
+#[test]
+fn a_file_is_read_on_behind_its_refused_line(rt: HostRuntime) -> Result<(), Fail> {
+    let alloc = rt.alloc();
+    let kernel: &[&str] = &["\\begindata\nX\nY = 1\n"];
+    for call in 1..6u64 {
+        let words = texts(alloc, &["normal", "--kernel=k"])?;
+        let failing = vec![in alloc; call]?;
+        let held = files(alloc, kernel, HEADER)?;
+        let mut depot = MemoryDepot::new(held, vec![in alloc; 14]?, failing);
+        let mut out = output(alloc, Vec::new(alloc))?;
+        let mut notes = output(alloc, Vec::new(alloc))?;
+        let status = run(alloc, &words, &mut depot, &mut out, &mut notes);
+        // The file is chosen, and read in two pieces and at its end.
+        let (code, line) = match call {
+            1..=4 => (7, "refused;7;Kernel\n"),
+            _ => (4, "refused;4;Grammar;2;NoAssign\n"),
+        };
+        assert_eq!(rt; status.code(), code, "at {call}");
+        assert_eq!(rt; notes.written(), line.as_bytes());
+    }
+    Ok(())
+}
+
+#[test]
+fn a_file_that_is_too_long_behind_its_refused_line(rt: HostRuntime) -> Result<(), Fail> {
+    let alloc = rt.alloc();
+    let words = texts(alloc, &WORDS)?;
+    let mut kernel = b"\\begindata\nX\n".to_vec(alloc)?;
+    let blanks = vec![in alloc; b' '; 16_777_217]?;
+    kernel.extend_from_slice(&blanks)?;
     let mut held = Vec::new(alloc);
-    held.push((
-        String::from_str(alloc, "k")?,
-        vec![in alloc; 10; 16_777_217]?,
-    ))?;
+    held.push((String::from_str(alloc, "k")?, kernel))?;
     let mut depot = MemoryDepot::new(held, Vec::new(alloc), Vec::new(alloc));
     let mut out = output(alloc, Vec::new(alloc))?;
     let mut notes = output(alloc, Vec::new(alloc))?;

@@ -4,13 +4,15 @@ ghost use Rattle.std.specs.Prelude.{◌≡◌, List, ℕ, Option, Some, Result, 
 ghost use Rattle.sk_edge.specs.Causes.{Rose, NoneFalls};
 ghost use Rattle.sk_edge.specs.Transfer.{SameFiles};
 ghost use Rattle.sk_words.specs.Words.{is_taken};
-ghost use Rattle.sk_words.specs.Asked.{options_in};
+ghost use Rattle.sk_words.specs.Asked.{options_in, Request as Asked};
+ghost use Rattle.sk_words.specs.Request.{files_of};
 ghost use Rattle.station.specs.Stage.{MayAnswer, gives};
 ghost use Rattle.station.specs.Files.{Source};
-ghost use Rattle.station.specs.Outcome.{outcome, outcome_of};
-ghost use Rattle.station.specs.Ending.{Ends};
+ghost use Rattle.station.specs.Outcome.{outcome, outcome_of, requested as requested_by};
+ghost use Rattle.station.specs.Ending.{Ends, EndsOrMemory, status_of};
 ghost use Rattle.sk_status.specs.Written.{Written, IsNoted};
-ghost use Rattle.sk_status.specs.Notes.{IsToldExactly};
+ghost use Rattle.sk_status.specs.Notes.{CarriesNoMemory, IsToldExactly};
+ghost use Rattle.sk_status.specs.declared.status.Status.{Status as Ended};
 
 use crate::normal::normal;
 use crate::residuals::residuals;
@@ -75,12 +77,14 @@ fn whole_text<D: Depot>(alloc: Global, words: &[String], depot: &mut D) -> Resul
 
 /// Writes the whole text.
 fn write_text<S: Sink>(out: &mut S, text: &[u8]) -> Status
-    ensures { let written : Written = record {
+    ensures ends { let written : Written = record {
       before = S.written out.old;
       after = S.written out.new;
       rose = Rose (S.faults out.old) (S.faults out.new);
     } in
         Ends (gives text.now) written result }
+    ensures told { IsToldExactly result }
+    ensures apart { CarriesNoMemory result }
 {
     match write_all(out, text) {
         Ok(()) => Status::Done,
@@ -103,6 +107,7 @@ fn ended<D: Depot, S: Sink>(alloc: Global, words: &[String], depot: &mut D, out:
         Ends (outcome (map string_bytes words.now) source) written result }
     ensures not_taken { result ≡ Status.WordsRefused WordsFault.NotTaken → is_taken (codes "station" ∷ map string_bytes words.now) ≡ false }
     ensures told { IsToldExactly result }
+    ensures apart { CarriesNoMemory result }
 {
     match whole_text(alloc, words, depot) {
         Ok(text) => write_text(out, text.as_slice()),
@@ -131,6 +136,18 @@ pub fn run<D: Depot, S: Sink, N: Sink>(
           rose = Rose (S.faults out.old) (S.faults out.new);
         } in
         Ends (outcome (map string_bytes words.now) source) written result }
+
+    // Where no count rose and the files are known, the run ends as they say, unless memory runs out.
+    ensures complete { (request : Asked) (ended : Result (List ℕ) Ended)
+        → requested_by (codes "station" ∷ map string_bytes words.now) (Ok request)
+        → ((name : List ℕ) → ¬ Rose (D.faults depot.old name) (D.faults depot.new name))
+        → (¬ Rose (S.faults out.old) (S.faults out.new))
+        → All (λ name. IsSome (D.holds depot.old name)) (files_of request.options)
+        → outcome (map string_bytes words.now) (record { holds = D.holds depot.old; given = D.given depot.new; rose = λ name. ⊥ }) ended
+        → EndsOrMemory result (status_of ended) }
+
+    // Want of memory is status 9, and no other status carries it.
+    ensures apart { CarriesNoMemory result }
 
     // Clap takes no words that are refused as not taken.
     ensures not_taken { result ≡ Status.WordsRefused WordsFault.NotTaken → is_taken (codes "station" ∷ map string_bytes words.now) ≡ false }

@@ -24,14 +24,14 @@ may_refuse view stage New fault h = h
 may_refuse view stage (Over place) fault h = h
 
 pub returns-in-Ok-clause-few : goal.returns-in-Ok-clause-few
-returns-in-Ok-clause-few c = few_of _ _ c.requires c.in-Ok.ensures.spelled
+returns-in-Ok-clause-few c = λ bytes read short. few_of bytes _ short (c.in-Ok.ensures.spelled bytes read)
 
 pub returns-in-Err-clause-stage : goal.returns-in-Err-clause-stage
-returns-in-Err-clause-stage c =
+returns-in-Err-clause-stage c = λ bytes read.
     let kind : FileKind = c.args.kind in
     let fault : GrammarFault = c.in-Err.fault in
-    let stage : Stage DocView = judged (DocOf c.args.bytes.now) (refused_by kind) in
+    let stage : Stage DocView = judged (DocOf bytes) (refused_by kind) in
     let other : fault ≡ NoMemory → ⊥ = λ e. cc in
-    let held : stage (Err (refused_by kind fault)) = (fault, refusal c.args.bytes.now fault other c.in-Err.ensures.fault, refl) in
+    let held : stage (Err (refused_by kind fault)) = (fault, refusal bytes fault other (c.in-Err.ensures.fault bytes read), refl) in
     subst (λ (s : Status). MayAnswer {X = DocView} {A = DocView} (λ d. d) stage (Err s)) (sym c.refused.ensures)
     (may_refuse {A = DocView} {X = DocView} (λ d. d) stage kind fault held)

@@ -1,0 +1,30 @@
+-- The options that a command needs are given.
+use Rattle.std.proofs.Common.{◌≡◌, List, ℕ, Option, Some, None, Ok, false, sym, subst}
+use Rattle.std.specs.Prelude.{is_none}
+use Rattle.sk_words.specs.declared.tables.Command.{Command}
+use Rattle.sk_words.specs.declared.tables.Command.TheVariants.{Residuals, Normal}
+use Rattle.sk_words.specs.declared.tables.OptionName.TheVariants as opt
+use Rattle.sk_words.specs.Words.{matches}
+use Rattle.sk_words.specs.Request.{Options, options_of, options_fault, first_missing, first_out_of_range, needs, used}
+use Rattle.sk_words.specs.Asked.{Request, WordsAsk, AsksFor}
+use Rattle.sk_words.proofs.Numbers.{none_found, no_fault, asked_fault}
+
+abbrev IsGiven : Option (List ℕ) → Type 0
+IsGiven text = is_none text ≡ false
+
+-- the files that a command needs are named
+abbrev pub AreNamed : Command → Options → Type 0
+AreNamed Residuals options = IsGiven (options opt.Kernel) × IsGiven (options opt.Obs)
+AreNamed Normal options = IsGiven (options opt.Kernel)
+
+named : (command : Command) (options : Options) → options_fault command options ≡ None → AreNamed command (used command options)
+named Residuals options h =
+    let given = none_found (λ name. is_none (options name)) (needs Residuals) (no_fault (first_missing Residuals options) (first_out_of_range options) h).0 in
+    (given.0, given.1.0)
+named Normal options h = (none_found (λ name. is_none (options name)) (needs Normal) (no_fault (first_missing Normal options) (first_out_of_range options) h).0).0
+
+pub are_named : (words : List (List ℕ)) (request : Request) → WordsAsk words (Ok request) → AreNamed request.command request.options
+are_named words request h =
+    let asked : AsksFor (matches words) request.command = record { none = h.1; is_command = h.2 } in
+    subst (λ (options : Options). AreNamed request.command options) (sym h.3)
+    (named request.command (options_of (matches words)) (asked_fault (matches words) request.command asked))

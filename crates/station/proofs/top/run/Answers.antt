@@ -1,0 +1,19 @@
+use Rattle.std.proofs.Common.{◌≡◌, List, ℕ, map, refl}
+use Rattle.std.specs.Prelude.{string_bytes}
+use Rattle.sk_edge.specs.Causes.{Rose}
+use Rattle.sk_status.specs.Written.{Written}
+use Rattle.station.specs.Files.{Source}
+use Rattle.station.proofs.Moves.{over}
+use Rattle.station.proofs.Complete.{completed}
+use Rattle.station.proofs.top.run.Goals as goal
+
+pub returns-clause-complete : goal.returns-clause-complete
+returns-clause-complete g c = λ request ended asked calm quiet known comes.
+    let depot = g.D.Depot in
+    let sink = g.S.Sink in
+    let source : Source = over (depot.holds c.args.depot.now) (depot.given c.ended.new.depot) (depot.faults c.args.depot.now) (depot.faults c.ended.new.depot) in
+    let silent : Source = record { holds = source.holds; given = source.given; rose = λ name. ⊥ } in
+    let out : Written = record { before = sink.written c.args.out.now; after = sink.written c.ended.new.out; rose = Rose (sink.faults c.args.out.now) (sink.faults c.ended.new.out) } in
+    completed (map string_bytes c.args.words.now) request source silent out c.ended.result ended
+    (record { holds = λ name. refl; rose = λ name r. absurd r; given = refl })
+    calm quiet asked known c.ended.ensures.ends comes
