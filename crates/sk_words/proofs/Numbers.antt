@@ -6,7 +6,7 @@ use Rattle.std.specs.Str.Parse.{digits_value}
 use Rattle.std.proofs.lemmas.Bool.{false≢true}
 use Rattle.clap.specs.Words.{Row}
 use Rattle.sk_words.specs.declared.tables.Command.{Command}
-use Rattle.sk_words.specs.declared.tables.Command.TheVariants.{Residuals, Normal}
+use Rattle.sk_words.specs.declared.tables.Command.TheVariants.{Residuals, Normal, Convert}
 use Rattle.sk_words.specs.declared.tables.OptionName.{OptionName}
 use Rattle.sk_words.specs.declared.tables.OptionName.TheVariants as opt
 use Rattle.sk_words.specs.declared.fault.WordsFault.{WordsFault}
@@ -56,11 +56,18 @@ pub asked_fault : (rows : List Row) (command : Command) → AsksFor rows command
 asked_fault rows command h =
     sym (ap (λ (o : Option Command). option_map_or (λ command. options_fault command (options_of rows)) o (Some UnknownCommand)) h.is_command) ∙ h.none
 
+module _ (rows : List Row) (command : Command) (h : AsksFor rows command) where
+  passes : (first_missing command (options_of rows) ≡ None) × (first_out_of_range (options_of rows) ≡ None)
+  passes = no_fault (first_missing command (options_of rows)) (first_out_of_range (options_of rows)) (asked_fault rows command h)
+
+  given : Fails (λ name. is_none (options_of rows name)) (needs command)
+  given = none_found (λ name. is_none (options_of rows name)) (needs command) passes.0
+
+  within : is_out_of_range (options_of rows) opt.Sc ≡ false
+  within = (none_found (is_out_of_range (options_of rows)) all_options passes.1).1.1.1.0
+
 pub sc_given : (rows : List Row) (command : Command) → AsksFor rows command → NeedsNumber command
     → (n : ℕ) × (option_and_then number_of (options_of rows opt.Sc) ≡ Some n) × (1 ≤ n) × (n ≤ 999999999) × (n ≡ number_or 0 opt.Sc (used command (options_of rows)))
-sc_given rows Residuals h needed =
-    let none = no_fault (first_missing Residuals (options_of rows)) (first_out_of_range (options_of rows)) (asked_fault rows Residuals h) in
-    let given = none_found (λ name. is_none (options_of rows name)) (needs Residuals) none.0 in
-    let within = none_found (is_out_of_range (options_of rows)) all_options none.1 in
-    number_part (options_of rows opt.Sc) given.1.1.0 within.1.1.1.0
+sc_given rows Residuals h needed = number_part (options_of rows opt.Sc) (given rows Residuals h).1.1.0 (within rows Residuals h)
 sc_given rows Normal h needed = absurd (false≢true needed)
+sc_given rows Convert h needed = number_part (options_of rows opt.Sc) (given rows Convert h).1.0 (within rows Convert h)

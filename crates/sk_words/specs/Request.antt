@@ -8,7 +8,7 @@ use Rattle.std.specs.Str.Parse.{digits_value}
 use Rattle.clap.specs.Words.{Row}
 use Rattle.sk_words.specs.Words.{option_text, command_text, faults, matches}
 use Rattle.sk_words.specs.declared.tables.Command.{Command}
-use Rattle.sk_words.specs.declared.tables.Command.TheVariants.{Residuals, Normal}
+use Rattle.sk_words.specs.declared.tables.Command.TheVariants.{Residuals, Normal, Convert}
 use Rattle.sk_words.specs.declared.tables.OptionName.{OptionName}
 use Rattle.sk_words.specs.declared.tables.OptionName.TheVariants as opt
 use Rattle.sk_words.specs.declared.fault.WordsFault.{WordsFault}
@@ -45,19 +45,22 @@ all_options = opt.Leap ∷ opt.Kernel ∷ opt.Obs ∷ opt.Sc ∷ opt.TolNs ∷ o
 abbrev pub word_of : Command → List ℕ
 word_of Residuals = codes "residuals"
 word_of Normal = codes "normal"
+word_of Convert = codes "convert"
 
 abbrev pub all_commands : List Command
-all_commands = Residuals ∷ Normal ∷ []
+all_commands = Residuals ∷ Normal ∷ Convert ∷ []
 
 -- the options that a command needs, in the order of the option table
 abbrev pub needs : Command → List OptionName
 needs Residuals = opt.Kernel ∷ opt.Obs ∷ opt.Sc ∷ []
 needs Normal = opt.Kernel ∷ []
+needs Convert = opt.Kernel ∷ opt.Sc ∷ opt.Clock ∷ []
 
 -- the options that a command uses; others that are given are checked for their range alone
 abbrev pub uses : Command → List OptionName
 uses Residuals = opt.Leap ∷ opt.Kernel ∷ opt.Obs ∷ opt.Sc ∷ []
 uses Normal = opt.Kernel ∷ []
+uses Convert = opt.Leap ∷ opt.Kernel ∷ opt.Sc ∷ opt.Clock ∷ []
 
 -- ---- ranges
 

@@ -34,9 +34,10 @@ pub enum OptionName {
 pub enum Command {
     Residuals,
     Normal,
+    Convert,
 }
 
-static COMMANDS: [Command; 2] = [Command::Residuals, Command::Normal];
+static COMMANDS: [Command; 3] = [Command::Residuals, Command::Normal, Command::Convert];
 
 static OPTIONS: [OptionName; 19] = [
     OptionName::Leap,
@@ -72,6 +73,15 @@ static RESIDUALS_USES: [OptionName; 4] = [
 static NORMAL_NEEDS: [OptionName; 1] = [OptionName::Kernel];
 
 static NORMAL_USES: [OptionName; 1] = [OptionName::Kernel];
+
+static CONVERT_NEEDS: [OptionName; 3] = [OptionName::Kernel, OptionName::Sc, OptionName::Clock];
+
+static CONVERT_USES: [OptionName; 4] = [
+    OptionName::Leap,
+    OptionName::Kernel,
+    OptionName::Sc,
+    OptionName::Clock,
+];
 
 impl OptionName {
     /// All options, in the order of their table.
@@ -124,6 +134,7 @@ impl Command {
         match self {
             Command::Residuals => "residuals",
             Command::Normal => "normal",
+            Command::Convert => "convert",
         }
     }
 
@@ -134,6 +145,7 @@ impl Command {
         match self {
             Command::Residuals => RESIDUALS_NEEDS.as_slice(),
             Command::Normal => NORMAL_NEEDS.as_slice(),
+            Command::Convert => CONVERT_NEEDS.as_slice(),
         }
     }
 
@@ -144,6 +156,7 @@ impl Command {
         match self {
             Command::Residuals => RESIDUALS_USES.as_slice(),
             Command::Normal => NORMAL_USES.as_slice(),
+            Command::Convert => CONVERT_USES.as_slice(),
         }
     }
 
