@@ -11,3 +11,4 @@ mod words;
 
 pub use fault::ReportFault;
 pub use listing::table;
+pub use times::{Timed, time_of};

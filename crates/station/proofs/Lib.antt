@@ -6,3 +6,5 @@ pub mod Complete
 pub mod Sizes
 pub mod Tails
 pub mod Refusals
+pub mod Opened
+pub mod Converted

@@ -4,7 +4,7 @@ use Rattle.std.specs.Prelude.{codes, unwrap_or, IsSomeAnd}
 use Rattle.sk_status.specs.declared.status.Status.{Status}
 use Rattle.sk_status.specs.declared.status.Status.TheVariants.{Done, WordsRefused, LeapRefused, KernelRefused, ObservationRefused, NotPublished, ReadFault, WriteFault, NoMemory, TimeRefused, AuditNo, NewRefused, ExcerptRefused, OverRefused}
 use Rattle.sk_words.specs.declared.tables.Command.{Command}
-use Rattle.sk_words.specs.declared.tables.Command.TheVariants.{Residuals, Normal}
+use Rattle.sk_words.specs.declared.tables.Command.TheVariants.{Residuals, Normal, Convert}
 use Rattle.sk_status.specs.declared.status.FileKind.{FileKind}
 use Rattle.sk_status.specs.declared.status.FileKind.TheVariants.{Leap, Kernel, Observations, New, Over}
 use Rattle.sk_words.specs.declared.tables.OptionName.TheVariants as opt
@@ -17,6 +17,8 @@ use Rattle.sk_grammar.specs.Canonical.{ended_by_line_feeds, canonical_text}
 use Rattle.sk_leap.specs.declared.pair.LeapPair.{LeapPair}
 use Rattle.sk_clock.specs.Clock.{ClockView, total}
 use Rattle.sk_clock.specs.Row.{RowView, IsObservedTime}
+use Rattle.sk_triples.specs.Terms.{TripleView}
+use Rattle.sk_triples.specs.Line.{covering}
 use Rattle.sk_triples.specs.Kernel.{TriplesView, range_checks}
 use Rattle.sk_checks.specs.Checks.{Check, ◌⇒◌, carried, Judges, FirstRefuses, Refuses, each_after}
 use Rattle.sk_grammar.specs.declared.fault.GrammarFault.{GrammarFault}
@@ -37,14 +39,15 @@ use Rattle.sk_obs.specs.Words.{TimeWord, TdtNumber, UtcCode, CucHex, CdsHex, Oth
 use Rattle.sk_report.specs.Report.{table_checks}
 use Rattle.sk_report.specs.declared.fault.ReportFault.{ReportFault}
 use Rattle.sk_report.specs.declared.fault.ReportFault.TheVariants as report_fault
-use Rattle.station.specs.Stage.{Stage, ◌>>=◌, MayAnswer, gives}
+use Rattle.station.specs.Stage.{Stage, ◌>>=◌, MayAnswer, gives, some}
 use Rattle.sk_words.specs.Asked.{WordsAsk}
 use Rattle.sk_words.specs.Request.{Options, text_or}
 use Rattle.station.specs.Files as files
 use Rattle.station.specs.Files.{Source, KernelRead, reads, judged, refused_by, too_long, sc_of}
-use Rattle.station.specs.Outcome.{requested, outcome, outcome_of, residuals, normal, tabled, all_covered, status_of_report}
-use Rattle.station.specs.Output.{plain_table}
-use Rattle.station.proofs.Tails.{after_leap, after_kernel, after_observations, after_lines}
+use Rattle.station.specs.Outcome.{requested, outcome, outcome_of, residuals, normal, convert, converted, clock_tick, TickOf, covered, tabled, all_covered, status_of_report}
+use Rattle.station.specs.Output.{plain_table, tick_fields, time_by, line_of}
+use Rattle.station.specs.Time.{IsUtcWord}
+use Rattle.station.proofs.Tails.{after_leap, after_kernel, after_observations, after_lines, after_clock}
 use Rattle.station.specs.Ending.{Ends}
 use Rattle.sk_status.specs.Written.{Written, IsUntouched}
 use Rattle.sk_status.specs.Notes.{IsToldExactly, CarriesNoMemory}
@@ -234,9 +237,28 @@ always_normal : (source : Source) (options : Options) → Always (normal source 
 always_normal source options =
     always_then (files.kernel_document source options) (λ doc. gives (canonical_text doc)) (always_document source Kernel (text_or opt.Kernel options)) (λ doc. always_gives (canonical_text doc))
 
+always_covered : (triples : TriplesView) (number tick : ℕ) → Always (covered triples number tick)
+always_covered triples number tick =
+    always_judged (Judges (range_checks triples tick) (λ (triple : TripleView). (n : ℕ) × (covering triples.triples tick ≡ Some (n, triple)))) (λ fault. ObservationRefused (obs_stop.Range number fault)) (λ fault h. standing)
+
+always_converted : (leap : List LeapPair) (kernel : KernelRead) (tick : ℕ) → Always (converted leap kernel tick)
+always_converted leap kernel tick =
+    always_then (covered kernel.triples 0 tick) (λ (triple : TripleView). some (IsUtcWord leap (time_by kernel triple tick)) >>= (λ utc. gives (line_of (tick_fields kernel triple tick ++ utc ∷ [])))) (always_covered kernel.triples 0 tick)
+    (λ triple. always_then (some (IsUtcWord leap (time_by kernel triple tick))) (λ utc. gives (line_of (tick_fields kernel triple tick ++ utc ∷ []))) (λ status h. absurd h)
+    (λ utc. always_gives (line_of (tick_fields kernel triple tick ++ utc ∷ []))))
+
+always_convert : (source : Source) (options : Options) → Always (convert source options)
+always_convert source options =
+    always_then (files.leap_file source options) (λ leap. files.kernel_file source options >>= after_clock options leap) (always_leap_named source (options opt.Leap))
+    (λ leap. always_then (files.kernel_file source options) (after_clock options leap) (always_kernel source options)
+    (λ kernel. always_then (clock_tick (text_or opt.Clock options) kernel.clock) (converted leap kernel)
+    (always_judged (TickOf (text_or opt.Clock options) kernel.clock) (λ w. ObservationRefused (obs_stop.Clock w)) (λ fault h. standing))
+    (always_converted leap kernel)))
+
 always_command : (command : Command) (source : Source) (options : Options) → Always (outcome_of command source options)
 always_command Residuals source options = always_residuals source options
 always_command Normal source options = always_normal source options
+always_command Convert source options = always_convert source options
 
 always_outcome : (words : List (List ℕ)) (source : Source) → Always (outcome words source)
 always_outcome words source =

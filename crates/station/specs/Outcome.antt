@@ -28,7 +28,7 @@ use Rattle.sk_excerpt.specs.Excerpt as ex
 use Rattle.sk_least.specs.declared.stretch.Stretch.{Stretch}
 use Rattle.sk_least.specs.Answer as cover
 use Rattle.sk_words.specs.declared.tables.Command.{Command}
-use Rattle.sk_words.specs.declared.tables.Command.TheVariants.{Residuals, Normal}
+use Rattle.sk_words.specs.declared.tables.Command.TheVariants.{Residuals, Normal, Convert}
 use Rattle.sk_status.specs.declared.status.Status.{Status}
 use Rattle.sk_status.specs.declared.status.Status.TheVariants.{WordsRefused, ObservationRefused, NotPublished, TimeRefused, AuditNo, NewRefused, ExcerptRefused, OverRefused, NoMemory}
 use Rattle.sk_status.specs.declared.status.FileKind.TheVariants.{New, Over}
@@ -102,14 +102,23 @@ TickOf word clock = Judges (word_checks clock word) (IsClockWord clock word)
 abbrev pub TimeOf : List ℕ → List LeapPair → Result ℤ TimeStop → Type 0
 TimeOf word leap = Judges (time_stops leap word) (SaysTime leap (time_word word))
 
+-- the tick of a clock word
+abbrev pub clock_tick : List ℕ → ClockView → Stage ℕ
+clock_tick word clock = judged (TickOf word clock) (λ w. ObservationRefused (obs_stop.Clock w))
+
+-- the line of a tick, with the UTC of its time
+abbrev pub converted : List LeapPair → KernelRead → ℕ → Stage (List ℕ)
+converted leap kernel tick = do
+  triple ← covered kernel.triples 0 tick
+  utc ← some (IsUtcWord leap (time_by kernel triple tick))
+  gives (line_of (tick_fields kernel triple tick ++ utc ∷ []))
+
 abbrev pub convert : Source → Options → Stage (List ℕ)
 convert source options = do
   leap ← leap_file source options
   kernel ← kernel_file source options
-  tick ← judged (TickOf (text_or opt.Clock options) kernel.clock) (λ w. ObservationRefused (obs_stop.Clock w))
-  triple ← covered kernel.triples 0 tick
-  utc ← some (IsUtcWord leap (time_by kernel triple tick))
-  gives (line_of (tick_fields kernel triple tick ++ utc ∷ []))
+  tick ← clock_tick (text_or opt.Clock options) kernel.clock
+  converted leap kernel tick
 
 -- the publication of the sample's observations
 abbrev pub sample_of : ℕ → ℕ → Options → Stage (List ℕ)
@@ -198,6 +207,7 @@ least source options = do
 abbrev pub outcome_of : Command → Source → Options → Stage (List ℕ)
 outcome_of Residuals = residuals
 outcome_of Normal = normal
+outcome_of Convert = convert
 
 -- the words
 abbrev pub requested : List (List ℕ) → Stage Request

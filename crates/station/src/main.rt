@@ -1,6 +1,7 @@
 //! The program: it reads kernels and observations, and writes what a command asks for.
 #![tactic(auto)]
 
+mod convert;
 mod files;
 mod kernel;
 mod meaning;
@@ -9,6 +10,7 @@ mod reading;
 mod residuals;
 #[cfg(test)]
 mod tests;
+mod ticks;
 mod top;
 
 pub use reading::{document, read_file};

@@ -14,6 +14,7 @@ ghost use Rattle.sk_status.specs.Written.{Written, IsNoted};
 ghost use Rattle.sk_status.specs.Notes.{CarriesNoMemory, IsToldExactly};
 ghost use Rattle.sk_status.specs.declared.status.Status.{Status as Ended};
 
+use crate::convert::convert;
 use crate::normal::normal;
 use crate::residuals::residuals;
 use sk_checks::NoMemory;
@@ -52,6 +53,7 @@ fn command_text<D: Depot>(
     match request.command() {
         Command::Residuals => residuals(alloc, depot, request),
         Command::Normal => normal(alloc, depot, request),
+        Command::Convert => convert(alloc, depot, request),
     }
 }
 
