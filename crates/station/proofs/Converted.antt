@@ -69,7 +69,7 @@ zipped_dated (pair ∷ pairs) (entry ∷ entries) h = (leap_day_bounds entry.dat
 
 named_dated : (source : Source) (name : Option (List ℕ)) (pairs : List LeapPair) → leap_named source name (Ok pairs) → IsDated pairs
 named_dated source None pairs h = let none : [] ≡ pairs = cc in subst IsDated none tt
-named_dated source (Some name) pairs h = zipped_dated pairs _ h.2.2.2.1
+named_dated source (Some name) pairs h = zipped_dated pairs _ h.2.2.1
 
 -- the table of a leap second kernel
 pub file_dated : (source : Source) (options : Options) (pairs : List LeapPair) → leap_file source options (Ok pairs) → IsDated pairs

@@ -1,5 +1,6 @@
-use Rattle.std.proofs.Common.{◌≡◌, ℕ, List, Ok, Err, subst}
+use Rattle.std.proofs.Common.{◌≡◌, ℕ, List, Ok, Err, ap, subst}
 use Rattle.sk_leap.specs.declared.pair.LeapPair.{LeapPair}
+use Rattle.sk_clock.specs.Clock.{ClockView}
 use Rattle.sk_words.specs.Request.{Options, text_or}
 use Rattle.sk_words.specs.declared.tables.OptionName.TheVariants as opt
 use Rattle.sk_words.specs.Asked.{options_in}
@@ -39,7 +40,8 @@ returns-in_err-tick-clause-stage g c =
     (λ v. v.items) kernel c.from_residual-in_err-tick.result c.in_ok-kernel.ensures.stage
     (may_end_as (λ t. t) (λ v. v.items) (clock_tick (text_or opt.Clock options) kernel.clock) (converted leap kernel) c.clock_tick.result c.from_residual-in_err-tick.result status c.in_err-tick.was
     (handed_on c.from_residual-in_err-tick.result status c.from_residual-in_err-tick.ensures.1)
-    (subst (λ (word : List ℕ). MayAnswer (λ (t : ℕ). t) (clock_tick word kernel.clock) c.clock_tick.result) c.text_or_empty-word.ensures c.clock_tick.ensures))
+    (subst (λ (clock : ClockView). MayAnswer (λ (t : ℕ). t) (clock_tick (text_or opt.Clock options) clock) c.clock_tick.result) (ap (λ (k : KernelRead). k.clock) c.kernel.view_is)
+    (subst (λ (word : List ℕ). MayAnswer (λ (t : ℕ). t) (clock_tick word c.kernel.inside.clock) c.clock_tick.result) c.text_or_empty-word.ensures c.clock_tick.ensures)))
 
 pub returns-clause-stage : goal.returns-clause-stage
 returns-clause-stage g c =
@@ -51,4 +53,5 @@ returns-clause-stage g c =
     options (after_clock options) leap c.in_ok-leap.ensures.stage
     (λ v. v.items) kernel c.converted.result c.in_ok-kernel.ensures.stage
     (may_then (λ v. v.items) (clock_tick (text_or opt.Clock options) kernel.clock) (converted leap kernel) c.in_ok-tick.tick c.converted.result
-    (subst (λ (word : List ℕ). clock_tick word kernel.clock (Ok c.in_ok-tick.tick)) c.text_or_empty-word.ensures c.in_ok-tick.ensures) c.converted.ensures)
+    (subst (λ (clock : ClockView). clock_tick (text_or opt.Clock options) clock (Ok c.in_ok-tick.tick)) (ap (λ (k : KernelRead). k.clock) c.kernel.view_is)
+    (subst (λ (word : List ℕ). clock_tick word c.kernel.inside.clock (Ok c.in_ok-tick.tick)) c.text_or_empty-word.ensures c.in_ok-tick.ensures)) c.converted.ensures)
