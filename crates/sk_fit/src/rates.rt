@@ -1,0 +1,88 @@
+ghost use Rattle.std.specs.Prelude.{◌≡◌, ◌≤◌, ◌↔◌, ℤ, pos, ◌≤ℤ◌, ◌<ℤ◌, ◌*◌, ◌^◌, IsTrue, IfSome, IfNone, List, All};
+ghost use Rattle.sk_fit.specs.Given.{AreSettings, gauge_of, anchor_of, sight_at, band_view, CanMeet, IsRate, IsUsableBand};
+ghost use Rattle.sk_triples.specs.Line.{Meets};
+ghost use Rattle.sk_triples.specs.Rates.{InBand, IsLeast, IsGreatest, IsLeastRate, IsGreatestRate, MeetsAll};
+ghost use Rattle.sk_triples.specs.Terms.{sights};
+
+use crate::bands::{greater, lesser};
+use crate::gains::{greatest_gain, is_within, least_gain, room, wanted};
+use crate::products::{begun, gain, grid, step_gain};
+use crate::settings::{Band, Bounds, Line, Settings};
+use sk_clock::Clock;
+use sk_decimal::Fixed;
+use sk_obs::Observation;
+
+/// The line is within the tolerance of the observation, both ends counted.
+pub fn meets(
+    clock: &Clock,
+    settings: &Settings,
+    line: Line,
+    rate: Fixed<18>,
+    obs: &Observation,
+) -> bool
+    requires settings { AreSettings settings.now }
+    requires line { CanMeet clock.now line obs.now }
+    requires rate { IsRate rate.units }
+    ensures { IsTrue result ↔ Meets (gauge_of settings.now clock.now) (anchor_of line) rate.units (sight_at 0 obs.now) }
+{
+    let ticks_per = clock.ticks_per();
+    let start = begun(line.time.units, ticks_per);
+    let gained = gain(rate.units, obs.tick - line.ticks);
+    let low = wanted(obs.time.units, settings.tolerance.units, ticks_per, start);
+    let high = room(obs.time.units, settings.tolerance.units, ticks_per, start);
+    is_within(low, gained, high)
+}
+
+/// The least rate of the band that is not too small at the observation, and the greatest that is not too large.
+pub fn bounds(
+    clock: &Clock,
+    settings: &Settings,
+    band: Band,
+    line: Line,
+    obs: &Observation,
+) -> Bounds
+    requires settings { AreSettings settings.now }
+    requires line { CanMeet clock.now line obs.now }
+    requires band { IsUsableBand settings.now.rate_decimals (band_view band) }
+    ensures least { IsLeastRate (InBand (band_view band)) (gauge_of settings.now clock.now) (anchor_of line) (sight_at 0 obs.now) result.least }
+    ensures greatest { IsGreatestRate (InBand (band_view band)) (gauge_of settings.now clock.now) (anchor_of line) (sight_at 0 obs.now) result.greatest }
+{
+    let ticks_per = clock.ticks_per();
+    let start = begun(line.time.units, ticks_per);
+    let step = step_gain(grid(settings.rate_decimals), obs.tick - line.ticks);
+    let low = wanted(obs.time.units, settings.tolerance.units, ticks_per, start);
+    let high = room(obs.time.units, settings.tolerance.units, ticks_per, start);
+    let least = least_gain(band, low, step);
+    let greatest = greatest_gain(band, high, step);
+    Bounds { least, greatest }
+}
+
+/// The least and the greatest rate of the band that meets all the observations; `None` exactly where there is none.
+pub fn run_rates(
+    clock: &Clock,
+    settings: &Settings,
+    band: Band,
+    line: Line,
+    observations: &[Observation],
+) -> Option<Bounds>
+    requires settings { AreSettings settings.now }
+    requires line { All (CanMeet clock.now line) observations.now }
+    requires band { IsUsableBand settings.now.rate_decimals (band_view band) }
+    ensures some { IfSome result (λ b.
+        let Meeting = MeetsAll (InBand (band_view band)) (gauge_of settings.now clock.now) (anchor_of line) (sights observations.now) in
+        IsLeast Meeting b.least × IsGreatest Meeting b.greatest) }
+    ensures none { IfNone result ((n : ℤ) → ¬ MeetsAll (InBand (band_view band)) (gauge_of settings.now clock.now) (anchor_of line) (sights observations.now) n) }
+{
+    let mut least = band.least;
+    let mut greatest = band.greatest;
+    for obs in observations {
+        let bound = bounds(clock, settings, band, line, obs);
+        least = greater(least, bound.least);
+        greatest = lesser(greatest, bound.greatest);
+    }
+    if least <= greatest {
+        Some(Bounds { least, greatest })
+    } else {
+        None
+    }
+}
