@@ -1,6 +1,6 @@
 -- Answers of one kind are none of another.
 use Rattle.std.proofs.Common.{◌≡◌, ◌≢◌, Bool, true, false}
-use Rattle.std.specs.Prelude.{Result, Ok, Err, IsTrue}
+use Rattle.std.specs.Prelude.{Result, Ok, IsTrue}
 use Rattle.std.specs.declared.alloc.AllocError.{AllocError}
 
 abbrev pub went : Bool → Result Bool AllocError

@@ -1,34 +1,32 @@
 -- What is asked before the first new triple.
-use Rattle.std.proofs.Common.{◌≡◌, ◌≢◌, ◌⊎◌, ℕ, suc, ◌+◌, ◌-◌, ◌<◌, ◌≤◌, ◌↔◌, List, [], ◌∷◌, ◌++◌, length, take, refl, sym, ap, subst, inl, inr, ◌∙◌, arith, get_or}
+use Rattle.std.proofs.Common.{◌≡◌, ◌≢◌, ◌⊎◌, ℕ, ◌+◌, ◌-◌, ◌<◌, List, [], ◌∷◌, ◌++◌, length, take, sym, ap, subst, ◌∙◌, arith, get_or}
 use Rattle.std.proofs.lemmas.List.{take_more, take_all}
-use Rattle.std.specs.Prelude.{ℤ, pos, ◌*ℤ◌, ◌<ℤ◌, ◌^◌, Option, unwrap_or}
+use Rattle.std.specs.Prelude.{ℤ, pos, ◌*ℤ◌, ◌^◌, unwrap_or}
 use Rattle.std.specs.List.{AllByRecursion}
 use Rattle.sk_clock.specs.Row.{RowView}
 use Rattle.sk_clock.specs.Clock.{ClockView, ticks_per, total, partition_at}
 use Rattle.sk_triples.specs.declared.triples.Fall.{Fall}
-use Rattle.sk_triples.specs.Terms.{TripleView, hold_of}
+use Rattle.sk_triples.specs.Terms.{TripleView}
 use Rattle.sk_triples.specs.Line.{FallsOver, IsFirstFall}
-use Rattle.sk_triples.specs.Kernel.{TriplesView, AreOf, AreKept, IsTriple, HasFall}
-use Rattle.sk_triples.specs.Input.{HasLast, IsBadHold}
+use Rattle.sk_triples.specs.Kernel.{TriplesView, IsTriple, HasFall}
+use Rattle.sk_triples.specs.Input.{IsBadHold}
 use Rattle.sk_triples.proofs.Lists.{all_back}
 use Rattle.sk_fit.specs.declared.settings.Settings.{Settings}
-use Rattle.sk_fit.specs.declared.fault.FitFault.TheVariants.{BadHold, OldFalls, BandEmpty}
-use Rattle.sk_fit.specs.Given.{terms_of}
-use Rattle.sk_fit.specs.Causes.{Refuses, input, IsOldFall}
+use Rattle.sk_fit.specs.Causes.{input, IsOldFall}
 
 -- the last of some triples stands last
 pub last_place : (ts : List TripleView) (old : TripleView) → 0 < length ts → old ≡ get_or ts (length ts - 1) old
-  → (front : List TripleView) × (ts ≡ front ++ old ∷ [])
+    → (front : List TripleView) × (ts ≡ front ++ old ∷ [])
 last_place ts old some e =
-  let i : ℕ = length ts - 1 in
-  (take i ts, sym (take_all (i + 1) ts (omega arith)) ∙ take_more ts i old (omega arith) ∙ ap (λ (x : TripleView). take i ts ++ x ∷ []) (sym e))
+    let i : ℕ = length ts - 1 in
+    (take i ts, sym (take_all (i + 1) ts (omega arith)) ∙ take_more ts i old (omega arith) ∙ ap (λ (x : TripleView). take i ts ++ x ∷ []) (sym e))
 
 pub last_triple : (most : ℕ) (ts : List TripleView) (old : TripleView) (front : List TripleView) → ts ≡ front ++ old ∷ []
-  → AllByRecursion (IsTriple most) ts → IsTriple most old
+    → AllByRecursion (IsTriple most) ts → IsTriple most old
 last_triple most ts old front e h = (all_back (IsTriple most) front (old ∷ []) (subst (AllByRecursion (IsTriple most)) e h)).0
 
 module _ (triples : TriplesView) (clock : ClockView) (rows : List RowView) (settings : Settings) (old : TripleView) (hold : ℕ)
-  (is_hold : hold ≡ unwrap_or settings.hold old.anchor.ticks) where
+    (is_hold : hold ≡ unwrap_or settings.hold old.anchor.ticks) where
   abbrev pub IsBadAt : ℕ → Type 0
   IsBadAt h = (h < old.anchor.ticks) ⊎ (total clock < h) ⊎ (partition_at clock h ≢ partition_at clock old.anchor.ticks)
 
@@ -40,12 +38,12 @@ module _ (triples : TriplesView) (clock : ClockView) (rows : List RowView) (sett
 
 -- falls over ticks per count, of the kernel's triples or of the clock
 pub same_falls : (per_count per_count' : ℕ) (ts : List TripleView) (slip : ℤ) → per_count ≡ per_count' → ((i : ℕ) → ¬ FallsOver per_count ts slip i)
-  → (i : ℕ) → ¬ FallsOver per_count' ts slip i
+    → (i : ℕ) → ¬ FallsOver per_count' ts slip i
 same_falls per_count per_count' ts slip e = subst (λ (p : ℕ). (i : ℕ) → ¬ FallsOver p ts slip i) e
 
 pub old_fall : (triples : TriplesView) (clock : ClockView) (rows : List RowView) (settings : Settings) (fall : Fall) → triples.per_count ≡ ticks_per clock
-  → IsFirstFall triples.per_count triples.triples (settings.slip.units *ℤ pos (10 ^ 9)) fall.join
-  → HasFall triples.per_count triples.triples fall.join fall.amount.num → fall.amount.den ≡ pos triples.per_count
-  → IsOldFall (input triples clock rows settings) (ticks_per clock) fall
+    → IsFirstFall triples.per_count triples.triples (settings.slip.units *ℤ pos (10 ^ 9)) fall.join
+    → HasFall triples.per_count triples.triples fall.join fall.amount.num → fall.amount.den ≡ pos triples.per_count
+    → IsOldFall (input triples clock rows settings) (ticks_per clock) fall
 old_fall triples clock rows settings fall e first amount over =
-  subst (λ (p : ℕ). IsOldFall (input triples clock rows settings) p fall) e (record { first = first; amount = amount; over = over })
+    subst (λ (p : ℕ). IsOldFall (input triples clock rows settings) p fall) e (record { first = first; amount = amount; over = over })

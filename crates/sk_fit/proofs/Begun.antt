@@ -1,16 +1,16 @@
 -- From the start to a publication of all observations.
-use Rattle.std.proofs.Common.{◌≡◌, ◌⊎◌, ℕ, suc, ◌+◌, ◌-◌, ◌<◌, ◌≤◌, List, [], ◌∷◌, length, take, true, refl, sym, ap, subst, inl, inr, ◌∙◌, arith}
+use Rattle.std.proofs.Common.{◌≡◌, ℕ, suc, ◌+◌, ◌-◌, ◌<◌, ◌≤◌, List, [], ◌∷◌, length, true, refl, sym, ap, subst, inl, inr, arith}
 use Rattle.std.proofs.lemmas.List.{take_all}
 use Rattle.std.proofs.lemmas.Bool.Decides.{leb_tells}
 use Rattle.std.specs.List.{AllByRecursion}
 use Rattle.sk_clock.specs.Row.{RowView, AreRows}
 use Rattle.sk_clock.specs.Clock.{ClockView, total}
-use Rattle.sk_triples.specs.Terms.{Sight, Terms, TripleView, sights, sights_from, hold_of, seam}
+use Rattle.sk_triples.specs.Terms.{Sight, Terms, TripleView, sights, sights_from, hold_of}
 use Rattle.sk_triples.specs.Rates.{BandView}
 use Rattle.sk_triples.specs.Chain.{new_triples}
 use Rattle.sk_triples.specs.Kept.{is_new, Sorts}
 use Rattle.sk_triples.specs.Kernel.{TriplesView}
-use Rattle.sk_triples.specs.Input.{Input, Begins, AreTooMany}
+use Rattle.sk_triples.specs.Input.{Input}
 use Rattle.sk_fit.specs.declared.settings.Settings.{Settings}
 use Rattle.sk_fit.specs.declared.chain.Chain.{Chain}
 use Rattle.sk_fit.specs.declared.fault.FitFault.TheVariants.{TooMany}
@@ -24,8 +24,8 @@ use Rattle.sk_fit.proofs.Starting.{starts}
 use Rattle.sk_fit.proofs.Finished.{finished, gives, built_publication, new_triples_number}
 
 module _ (triples : TriplesView) (clock : ClockView) (settings : Settings) (rows : List RowView) (old : TripleView) (band : BandView) (left n : ℕ)
-  (start : IsStart triples clock settings old band left) (given : AreRows (total clock) rows)
-  (olds : AreOldTicks clock old.anchor.ticks left rows n) (new : IsNewTick clock old.anchor.ticks left rows n) where
+    (start : IsStart triples clock settings old band left) (given : AreRows (total clock) rows)
+    (olds : AreOldTicks clock old.anchor.ticks left rows n) (new : IsNewTick clock old.anchor.ticks left rows n) where
   abbrev t : Terms
   t = terms_of settings clock old
 
@@ -48,7 +48,7 @@ module _ (triples : TriplesView) (clock : ClockView) (settings : Settings) (rows
     dropped = [];
     sorts = sorts_olds t rows n (olds_of settings clock old left rows n start.seam olds);
     fitting = subst (λ (s : ℕ). IsFitting t (sights rows) n (fresh old s n) [] []) (sym start.seam)
-      (starts settings clock old (sights rows) n start.small start.triple hold_within news);
+        (starts settings clock old (sights rows) n start.small start.triple hold_within news);
   }
 
   module _ (f : FittingView) (chain : Chain) (e : chain ≡ finished n f) (h : IsFitted t rows (length rows) f) where
@@ -58,17 +58,24 @@ module _ (triples : TriplesView) (clock : ClockView) (settings : Settings) (rows
 
     sorted : Sorts t (sights rows) h.kept h.dropped
     sorted = subst (λ (z : List Sight). Sorts t z h.kept h.dropped)
-      (take_all (length rows) (sights rows) (let k = length-sights 0 rows in omega arith)) h.sorts
+        (take_all (length rows) (sights rows) (let k = length-sights 0 rows in omega arith)) h.sorts
 
     number : length triples.triples + length (new_triples (segments_of (sights rows) chain)) ≡ length triples.triples + (length chain.segments - 1)
     number = ap (λ (k : ℕ). length triples.triples + k) (new_triples_number (sights rows) chain)
 
     pub published : n ≤ length rows → ¬ (50000 < length triples.triples + (length chain.segments - 1)) → Gives x chain
     published within few = gives x old h.kept h.dropped (length rows) n f chain e (start.begins rows) sorted h.fitting
-      (count_news t (total clock) rows n given (olds_of settings clock old left rows n start.seam olds) (news_of settings clock old left rows n start.seam new) within)
-      (λ many. few (subst (λ (k : ℕ). 50000 < k) number many))
+        (count_news t (total clock) rows n given (olds_of settings clock old left rows n start.seam olds) (news_of settings clock old left rows n start.seam new) within)
+        (λ many. few (subst (λ (k : ℕ). 50000 < k) number many))
 
     pub too_many : 50000 < length triples.triples + (length chain.segments - 1) → Refuses x rows TooMany
-    too_many many = (old, start.begins rows, (h.dropped, segments_of (sights rows) chain,
-      built_publication t (sights rows) h.kept h.dropped (length rows) n f chain e sorted h.fitting,
-      subst (λ (k : ℕ). 50000 < k) (sym number) many))
+    too_many many = (
+      old,
+      start.begins rows,
+      (
+        h.dropped,
+        segments_of (sights rows) chain,
+        built_publication t (sights rows) h.kept h.dropped (length rows) n f chain e sorted h.fitting,
+        subst (λ (k : ℕ). 50000 < k) (sym number) many,
+      ),
+    )

@@ -1,5 +1,5 @@
 -- An observation is dropped where one more may be.
-use Rattle.std.proofs.Common.{◌≡◌, ℕ, suc, ◌+◌, ◌<◌, ◌≤◌, true, List, [], ◌∷◌, ◌++◌, length, refl, ap, ◌∙◌, arith, map}
+use Rattle.std.proofs.Common.{◌≡◌, ℕ, suc, ◌<◌, ◌≤◌, true, List, [], ◌∷◌, ◌++◌, length, refl, ap, ◌∙◌, arith, map}
 use Rattle.sk_triples.specs.Terms.{Sight, Terms}
 use Rattle.sk_triples.specs.Kept.{is_new, HasNoRate}
 use Rattle.sk_fit.specs.State.{FittingView, dropped_at, IsFitting, IsAt, Rises, Moves}
@@ -18,8 +18,8 @@ module _ (t : Terms) (all : List Sight) (n : ℕ) (f : FittingView) where
   room_gone kept dropped h full = let e = dropped_number kept dropped h in let r = h.room in omega arith
 
   pub drops : (o : Sight) → IsAt all n o → Rises all n o → is_new t o ≡ true → length f.dropped < t.reject
-    → ((kept dropped : List Sight) → IsFitting t all n f kept dropped → HasNoRate t kept o) → Moves t all n o f (dropped_at f n)
+      → ((kept dropped : List Sight) → IsFitting t all n f kept dropped → HasNoRate t kept o) → Moves t all n o f (dropped_at f n)
   drops o at rises new room none kept dropped h =
-    let e = dropped_number kept dropped h in
-    let m = waits t all n f o kept dropped at rises new h (omega arith) (none kept dropped h) in
-    (kept, dropped ++ o ∷ [], m.0, m.1)
+      let e = dropped_number kept dropped h in
+      let m = waits t all n f o kept dropped at rises new h (omega arith) (none kept dropped h) in
+      (kept, dropped ++ o ∷ [], m.0, m.1)

@@ -1,7 +1,6 @@
 -- What is built over all observations is a publication.
-use Rattle.std.proofs.Common.{◌≡◌, ℕ, suc, ◌+◌, ◌-◌, ◌<◌, ◌≤◌, List, [], ◌∷◌, ◌++◌, length, refl, sym, ap, subst, ◌∙◌, arith, map, length-append}
+use Rattle.std.proofs.Common.{◌≡◌, ℕ, suc, ◌-◌, List, [], ◌∷◌, ◌++◌, length, refl, sym, ap, subst, ◌∙◌, arith, map}
 use Rattle.std.specs.Prelude.{count_by, not, flat_map, None}
-use Rattle.sk_clock.specs.Row.{RowView}
 use Rattle.sk_triples.specs.Terms.{Sight, Terms, TripleView}
 use Rattle.sk_triples.specs.Chain.{SegmentView, new_triples, IsChain}
 use Rattle.sk_triples.specs.Kept.{Sorts, IsPublication, is_new}
@@ -24,7 +23,7 @@ segments_built : (all : List Sight) (first_new : ℕ) (f : FittingView) → segm
 segments_built all first_new f = map-append (segment_view all f.dropped) f.closed (f.open_one ∷ [])
 
 pub built_publication : (t : Terms) (all kept dropped : List Sight) (n first_new : ℕ) (f : FittingView) (chain : Chain) → chain ≡ finished first_new f
-  → Sorts t all kept dropped → IsFitting t all n f kept dropped → IsPublication t all dropped (segments_of all chain)
+    → Sorts t all kept dropped → IsFitting t all n f kept dropped → IsPublication t all dropped (segments_of all chain)
 built_publication t all kept dropped n first_new f chain e sorts h = subst (λ (c : Chain). IsPublication t all dropped (segments_of all c)) (sym e) (record {
   kept = kept;
   sorts = sorts;
@@ -32,8 +31,8 @@ built_publication t all kept dropped n first_new f chain e sorts h = subst (λ (
 })
 
 pub gives : (x : Input) (old : TripleView) (kept dropped : List Sight) (n first_new : ℕ) (f : FittingView) (chain : Chain) → chain ≡ finished first_new f
-  → Begins x old → Sorts (x.terms old) x.all kept dropped → IsFitting (x.terms old) x.all n f kept dropped
-  → first_new ≡ count_by (λ o. not (is_new (x.terms old) o)) x.all → ¬ AreTooMany x (segments_of x.all chain) → Gives x chain
+    → Begins x old → Sorts (x.terms old) x.all kept dropped → IsFitting (x.terms old) x.all n f kept dropped
+    → first_new ≡ count_by (λ o. not (is_new (x.terms old) o)) x.all → ¬ AreTooMany x (segments_of x.all chain) → Gives x chain
 gives x old kept dropped n first_new f chain e begins sorts h counted few = record {
   old = old;
   begins = begins;

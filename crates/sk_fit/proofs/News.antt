@@ -1,5 +1,5 @@
 -- Which observations are new, by their ticks.
-use Rattle.std.proofs.Common.{◌≡◌, ◌⊎◌, ℕ, ◌+◌, ◌<◌, ◌≤◌, List, true, false, Bool, refl, sym, ap, subst, inl, inr, ◌∙◌, arith}
+use Rattle.std.proofs.Common.{◌≡◌, ℕ, ◌+◌, List, true, false, sym, ap, subst, inl, inr, ◌∙◌, arith}
 use Rattle.std.proofs.lemmas.Bool.Decides.{eqb_tells}
 use Rattle.std.specs.Prelude.{Some, slice_get}
 use Rattle.sk_clock.specs.Row.{RowView}
@@ -11,7 +11,7 @@ use Rattle.sk_fit.specs.Fitted.{is_new_tick, AreOldTicks, IsNewTick}
 use Rattle.sk_fit.proofs.Observed.{AreOld, BeginsNew}
 
 pub old_more : (clock : ClockView) (last left : ℕ) (rows : List RowView) (n : ℕ) (row : RowView) → AreOldTicks clock last left rows n
-  → slice_get rows n ≡ Some row → is_new_tick clock last left row.tick ≡ false → AreOldTicks clock last left rows (n + 1)
+    → slice_get rows n ≡ Some row → is_new_tick clock last left row.tick ≡ false → AreOldTicks clock last left rows (n + 1)
 old_more clock last left rows n row olds here old k r less at = elim (eqb_tells k n) [
   | inl w ↦ (let same : r ≡ row = one (sym at ∙ ap (slice_get rows) w.1 ∙ here) in subst (λ (x : RowView). is_new_tick clock last left x.tick ≡ false) (sym same) old)
   | inr w ↦ olds k r (let ne = w.1 in omega arith) at
@@ -22,11 +22,11 @@ old_more clock last left rows n row olds here old k r less at = elim (eqb_tells 
 
 -- the same of the terms of a publication
 pub olds_of : (settings : Settings) (clock : ClockView) (old : TripleView) (left : ℕ) (rows : List RowView) (n : ℕ) → left ≡ seam (terms_of settings clock old)
-  → AreOldTicks clock old.anchor.ticks left rows n → AreOld (terms_of settings clock old) rows n
+    → AreOldTicks clock old.anchor.ticks left rows n → AreOld (terms_of settings clock old) rows n
 olds_of settings clock old left rows n e olds k row less here =
-  subst (λ (s : ℕ). is_new_tick clock old.anchor.ticks s row.tick ≡ false) e (olds k row less here)
+    subst (λ (s : ℕ). is_new_tick clock old.anchor.ticks s row.tick ≡ false) e (olds k row less here)
 
 pub news_of : (settings : Settings) (clock : ClockView) (old : TripleView) (left : ℕ) (rows : List RowView) (n : ℕ) → left ≡ seam (terms_of settings clock old)
-  → IsNewTick clock old.anchor.ticks left rows n → BeginsNew (terms_of settings clock old) rows n
+    → IsNewTick clock old.anchor.ticks left rows n → BeginsNew (terms_of settings clock old) rows n
 news_of settings clock old left rows n e new =
-  inr (λ row here. subst (λ (s : ℕ). is_new_tick clock old.anchor.ticks s row.tick ≡ true) e (new row here))
+    inr (λ row here. subst (λ (s : ℕ). is_new_tick clock old.anchor.ticks s row.tick ≡ true) e (new row here))

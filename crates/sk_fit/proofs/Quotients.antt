@@ -1,15 +1,15 @@
 -- Bounds of a band by quotients.
-use Rattle.std.proofs.Common.{◌≡◌, ◌⊎◌, ℕ, ◌+◌, ◌-◌, ◌*◌, ◌<◌, ◌≤◌, ◌^◌, ◌↔◌, refl, sym, ap, subst, inl, inr, arith, ◌∙◌}
-use Rattle.std.proofs.lemmas.Int.{ints, by_lt_z, to_z-of_z}
+use Rattle.std.proofs.Common.{◌≡◌, ℕ, ◌+◌, ◌-◌, ◌*◌, ◌<◌, ◌≤◌, ◌^◌, ◌↔◌, refl, sym, ap, subst, inl, inr, arith, ◌∙◌}
+use Rattle.std.proofs.lemmas.Int.{ints, to_z-of_z}
 use mir.Syntax.{w128}
-use mir.Val.{to_z, of_z, SFits}
+use mir.Val.{to_z, of_z}
 use lib.Signed.{mag}
 use Rattle.std.proofs.Math.Nat.{pow-le-pow_right}
 use Rattle.std.specs.Prelude.{ℤ, pos, negsuc, neg_ℤ, nat_abs, ◌+ℤ◌, ◌-ℤ◌, ◌*ℤ◌, ◌≤ℤ◌, ◌<ℤ◌}
 use Rattle.sk_decimal.specs.Quotient.{floor_quotient, ceiling_quotient}
 use Rattle.sk_triples.specs.Terms.{Sight, Anchor, Gauge, grid}
-use Rattle.sk_triples.specs.Line.{line_at, scaled, IsTooSmall, IsTooLarge, Meets}
-use Rattle.sk_triples.specs.Rates.{IsLeast, IsGreatest, IsAllowed, IsBand, on_grid, IsFastEnough, IsSlowEnough, IsLeastRate, IsGreatestRate, BandView, InBand}
+use Rattle.sk_triples.specs.Line.{scaled, IsTooSmall, IsTooLarge, Meets}
+use Rattle.sk_triples.specs.Rates.{IsLeast, IsGreatest, IsAllowed, IsBand, on_grid, IsLeastRate, IsGreatestRate, BandView, InBand}
 use Rattle.sk_decimal.proofs.Signed.{mul-le_right, <ℤ-or-≤ℤ}
 use Rattle.sk_decimal.proofs.Quotients.{floor_below, floor_greatest, ceiling_above, ceiling_least}
 use Rattle.sk_triples.proofs.RoundedUp.{twice}
@@ -65,7 +65,7 @@ module _ (band : BandView) (filled : band.least ≤ℤ band.greatest) where
     least_over h = inr ((λ m f. apart (ceiling_quotient wanted step) band.greatest (through (ceiling_quotient wanted step) m band.greatest (above m f) f.0.high) h), refl)
 
     pub least_inside : ceiling_quotient wanted step ≤ℤ band.greatest → band.least ≤ℤ ceiling_quotient wanted step
-      → IsLeastGain band wanted step (ceiling_quotient wanted step)
+        → IsLeastGain band wanted step (ceiling_quotient wanted step)
     least_inside h k = inl (record {
       has = (record { low = k; high = h }, ceiling_above wanted step positive);
       least = λ m f. above m f;
@@ -85,7 +85,7 @@ module _ (band : BandView) (filled : band.least ≤ℤ band.greatest) where
     greatest_under h = inr ((λ m f. apart band.least (floor_quotient room step) (through band.least m (floor_quotient room step) f.0.low (below m f)) h), refl)
 
     pub greatest_inside : band.least ≤ℤ floor_quotient room step → floor_quotient room step ≤ℤ band.greatest
-      → IsGreatestGain band room step (floor_quotient room step)
+        → IsGreatestGain band room step (floor_quotient room step)
     greatest_inside h k = inl (record {
       has = (record { low = h; high = k }, floor_below room step positive);
       greatest = λ m f. below m f;
@@ -145,11 +145,11 @@ module _ (g : Gauge) (anchor : Anchor) (o : Sight) where
   module _ (band : BandView) (filled : band.least ≤ℤ band.greatest) where
     highest : (n : ℤ) → n ≡ band.greatest +ℤ pos 1 → IsGreatest (InBand band) (n -ℤ pos 1)
     highest n e = subst (IsGreatest (InBand band)) (more_less band.greatest ∙ ap (λ (x : ℤ). x -ℤ pos 1) (sym e))
-      (record { has = at_high band filled; greatest = λ m b. b.high })
+        (record { has = at_high band filled; greatest = λ m b. b.high })
 
     lowest : (n : ℤ) → n ≡ band.least -ℤ pos 1 → IsLeast (InBand band) (n +ℤ pos 1)
     lowest n e = subst (IsLeast (InBand band)) (less_more band.least ∙ ap (λ (x : ℤ). x +ℤ pos 1) (sym e))
-      (record { has = at_low band filled; least = λ m b. b.low })
+        (record { has = at_low band filled; least = λ m b. b.low })
 
     pub least_rate_of : (n : ℤ) → IsLeastGain band (wanted_at g anchor o) (step_at g anchor o) n → IsLeastRate (InBand band) g anchor o n
     least_rate_of n (inl h) = inl (record {
@@ -167,29 +167,37 @@ module _ (g : Gauge) (anchor : Anchor) (o : Sight) where
 
     -- the same, of what the code computes
     pub least_rate_from : (wanted : ℤ) (step : ℕ) (n : ℤ) → wanted ≡ wanted_at g anchor o → step ≡ step_at g anchor o
-      → IsLeastGain band wanted step n → IsLeastRate (InBand band) g anchor o n
+        → IsLeastGain band wanted step n → IsLeastRate (InBand band) g anchor o n
     least_rate_from wanted step n e f h = least_rate_of n (subst (λ (x : ℤ). IsLeastGain band x (step_at g anchor o) n) e (subst (λ (x : ℕ). IsLeastGain band wanted x n) f h))
 
     pub greatest_rate_from : (room : ℤ) (step : ℕ) (n : ℤ) → room ≡ room_at g anchor o → step ≡ step_at g anchor o
-      → IsGreatestGain band room step n → IsGreatestRate (InBand band) g anchor o n
+        → IsGreatestGain band room step n → IsGreatestRate (InBand band) g anchor o n
     greatest_rate_from room step n e f h = greatest_rate_of n (subst (λ (x : ℤ). IsGreatestGain band x (step_at g anchor o) n) e (subst (λ (x : ℕ). IsGreatestGain band room x n) f h))
 
   -- a rate meets the observation exactly where its gain is between these
   pub meets_by : (rate low gained high : ℤ) → low ≡ wanted_at g anchor o → high ≡ room_at g anchor o
-    → gained ≡ (rate *ℤ pos (o.tick - anchor.ticks))
-    → ((low ≤ℤ gained) × (gained ≤ℤ high)) ↔ Meets g anchor rate o
+      → gained ≡ (rate *ℤ pos (o.tick - anchor.ticks))
+      → ((low ≤ℤ gained) × (gained ≤ℤ high)) ↔ Meets g anchor rate o
   meets_by rate low gained high e f h = (
-    (λ p. record { low = up _ _ _ (subst (λ (x : ℤ). x ≤ℤ (rate *ℤ pos (o.tick - anchor.ticks))) e (subst (λ (x : ℤ). low ≤ℤ x) h p.0));
-      high = down _ _ _ (subst (λ (x : ℤ). (rate *ℤ pos (o.tick - anchor.ticks)) ≤ℤ x) f (subst (λ (x : ℤ). x ≤ℤ high) h p.1)) }),
-    (λ m. (subst (λ (x : ℤ). low ≤ℤ x) (sym h) (subst (λ (x : ℤ). x ≤ℤ (rate *ℤ pos (o.tick - anchor.ticks))) (sym e) (up' _ _ _ m.low)),
-      subst (λ (x : ℤ). x ≤ℤ high) (sym h) (subst (λ (x : ℤ). (rate *ℤ pos (o.tick - anchor.ticks)) ≤ℤ x) (sym f) (down' _ _ _ m.high)))))
+    (λ p. record {
+      low = up _ _ _ (subst (λ (x : ℤ). x ≤ℤ (rate *ℤ pos (o.tick - anchor.ticks))) e (subst (λ (x : ℤ). low ≤ℤ x) h p.0));
+      high = down _ _ _ (subst (λ (x : ℤ). (rate *ℤ pos (o.tick - anchor.ticks)) ≤ℤ x) f (subst (λ (x : ℤ). x ≤ℤ high) h p.1));
+    }),
+    (λ m. (
+      subst (λ (x : ℤ). low ≤ℤ x) (sym h) (subst (λ (x : ℤ). x ≤ℤ (rate *ℤ pos (o.tick - anchor.ticks))) (sym e) (up' _ _ _ m.low)),
+      subst (λ (x : ℤ). x ≤ℤ high) (sym h) (subst (λ (x : ℤ). (rate *ℤ pos (o.tick - anchor.ticks)) ≤ℤ x) (sym f) (down' _ _ _ m.high)),
+    )),
+  )
     where
       up : (a b c : ℤ) → (a -ℤ b) ≤ℤ c → a ≤ℤ (b +ℤ c)
       up a b c p = omega (arith, ints)
+
       down : (a b c : ℤ) → c ≤ℤ (a -ℤ b) → (b +ℤ c) ≤ℤ a
       down a b c p = omega (arith, ints)
+
       up' : (a b c : ℤ) → a ≤ℤ (b +ℤ c) → (a -ℤ b) ≤ℤ c
       up' a b c p = omega (arith, ints)
+
       down' : (a b c : ℤ) → (b +ℤ c) ≤ℤ a → c ≤ℤ (a -ℤ b)
       down' a b c p = omega (arith, ints)
 
@@ -200,16 +208,18 @@ slow_band d z h k = let p : 10 ^ d ≤ 10 ^ 15 = pow-le-pow_right (omega arith) 
 
 -- the steps from a share of the old rate on, and up to a share
 pub from_share : (share n : ℤ) (grid : ℕ) → 0 < grid * 10 ^ 6
-  → (share ≤ℤ ((n *ℤ pos grid) *ℤ pos (10 ^ 6))) ↔ (ceiling_quotient share (grid * 10 ^ 6) ≤ℤ n)
+    → (share ≤ℤ ((n *ℤ pos grid) *ℤ pos (10 ^ 6))) ↔ (ceiling_quotient share (grid * 10 ^ 6) ≤ℤ n)
 from_share share n grid h = (
   (λ p. ceiling_least share (grid * 10 ^ 6) n h (subst (λ (x : ℤ). share ≤ℤ x) (twice n grid (10 ^ 6)) p)),
-  (λ p. subst (λ (x : ℤ). share ≤ℤ x) (sym (twice n grid (10 ^ 6))) (from_ceiling share n (grid * 10 ^ 6) h p)))
+  (λ p. subst (λ (x : ℤ). share ≤ℤ x) (sym (twice n grid (10 ^ 6))) (from_ceiling share n (grid * 10 ^ 6) h p)),
+)
 
 pub to_share : (share n : ℤ) (grid : ℕ) → 0 < grid * 10 ^ 6
-  → (((n *ℤ pos grid) *ℤ pos (10 ^ 6)) ≤ℤ share) ↔ (n ≤ℤ floor_quotient share (grid * 10 ^ 6))
+    → (((n *ℤ pos grid) *ℤ pos (10 ^ 6)) ≤ℤ share) ↔ (n ≤ℤ floor_quotient share (grid * 10 ^ 6))
 to_share share n grid h = (
   (λ p. floor_greatest share (grid * 10 ^ 6) n h (subst (λ (x : ℤ). x ≤ℤ share) (twice n grid (10 ^ 6)) p)),
-  (λ p. subst (λ (x : ℤ). x ≤ℤ share) (sym (twice n grid (10 ^ 6))) (to_floor share n (grid * 10 ^ 6) h p)))
+  (λ p. subst (λ (x : ℤ). x ≤ℤ share) (sym (twice n grid (10 ^ 6))) (to_floor share n (grid * 10 ^ 6) h p)),
+)
 
 pub to_limit : (limit n : ℤ) (grid : ℕ) → 0 < grid → ((n *ℤ pos grid) ≤ℤ limit) ↔ (n ≤ℤ floor_quotient limit grid)
 to_limit limit n grid h = ((λ p. floor_greatest limit grid n h p), (λ p. to_floor limit n grid h p))
@@ -235,28 +245,29 @@ passed_small z h k = omega (arith, ints)
 
 -- a rate is allowed exactly between the least and the greatest number of steps
 pub allowed_between : (d b : ℕ) (old old' least fast fast' most most' greatest : ℤ) (step : ℕ)
-  → step ≡ grid d → old' ≡ old → fast' ≡ fast → most' ≡ most
-  → ((n : ℤ) → ((old' *ℤ pos (10 ^ 6 - b)) ≤ℤ ((n *ℤ pos step) *ℤ pos (10 ^ 6))) ↔ (least ≤ℤ n))
-  → ((n : ℤ) → (((n *ℤ pos step) *ℤ pos (10 ^ 6)) ≤ℤ (old' *ℤ pos (10 ^ 6 + b))) ↔ (n ≤ℤ fast))
-  → ((n : ℤ) → ((n *ℤ pos step) ≤ℤ pos (1000 * 10 ^ 18)) ↔ (n ≤ℤ most))
-  → ((n : ℤ) → (n ≤ℤ greatest) ↔ ((n ≤ℤ fast') × (n ≤ℤ most')))
-  → (n : ℤ) → IsAllowed d b old n ↔ ((least ≤ℤ n) × (n ≤ℤ greatest))
+    → step ≡ grid d → old' ≡ old → fast' ≡ fast → most' ≡ most
+    → ((n : ℤ) → ((old' *ℤ pos (10 ^ 6 - b)) ≤ℤ ((n *ℤ pos step) *ℤ pos (10 ^ 6))) ↔ (least ≤ℤ n))
+    → ((n : ℤ) → (((n *ℤ pos step) *ℤ pos (10 ^ 6)) ≤ℤ (old' *ℤ pos (10 ^ 6 + b))) ↔ (n ≤ℤ fast))
+    → ((n : ℤ) → ((n *ℤ pos step) ≤ℤ pos (1000 * 10 ^ 18)) ↔ (n ≤ℤ most))
+    → ((n : ℤ) → (n ≤ℤ greatest) ↔ ((n ≤ℤ fast') × (n ≤ℤ most')))
+    → (n : ℤ) → IsAllowed d b old n ↔ ((least ≤ℤ n) × (n ≤ℤ greatest))
 allowed_between d b old old' least fast fast' most most' greatest step e o f m lows highs mosts lessers n =
-  let low : ((old *ℤ pos (10 ^ 6 - b)) ≤ℤ ((n *ℤ pos (grid d)) *ℤ pos (10 ^ 6))) ↔ (least ≤ℤ n) =
+    let low : ((old *ℤ pos (10 ^ 6 - b)) ≤ℤ ((n *ℤ pos (grid d)) *ℤ pos (10 ^ 6))) ↔ (least ≤ℤ n) =
     subst (λ (x : ℤ). ((x *ℤ pos (10 ^ 6 - b)) ≤ℤ ((n *ℤ pos (grid d)) *ℤ pos (10 ^ 6))) ↔ (least ≤ℤ n)) o
     (subst (λ (x : ℕ). ((old' *ℤ pos (10 ^ 6 - b)) ≤ℤ ((n *ℤ pos x) *ℤ pos (10 ^ 6))) ↔ (least ≤ℤ n)) e (lows n)) in
-  let high : (((n *ℤ pos (grid d)) *ℤ pos (10 ^ 6)) ≤ℤ (old *ℤ pos (10 ^ 6 + b))) ↔ (n ≤ℤ fast') =
+    let high : (((n *ℤ pos (grid d)) *ℤ pos (10 ^ 6)) ≤ℤ (old *ℤ pos (10 ^ 6 + b))) ↔ (n ≤ℤ fast') =
     subst (λ (x : ℤ). (((n *ℤ pos (grid d)) *ℤ pos (10 ^ 6)) ≤ℤ (old *ℤ pos (10 ^ 6 + b))) ↔ (n ≤ℤ x)) (sym f)
     (subst (λ (x : ℤ). (((n *ℤ pos (grid d)) *ℤ pos (10 ^ 6)) ≤ℤ (x *ℤ pos (10 ^ 6 + b))) ↔ (n ≤ℤ fast)) o
     (subst (λ (x : ℕ). (((n *ℤ pos x) *ℤ pos (10 ^ 6)) ≤ℤ (old' *ℤ pos (10 ^ 6 + b))) ↔ (n ≤ℤ fast)) e (highs n))) in
-  let limit : ((n *ℤ pos (grid d)) ≤ℤ pos (1000 * 10 ^ 18)) ↔ (n ≤ℤ most') =
+    let limit : ((n *ℤ pos (grid d)) ≤ℤ pos (1000 * 10 ^ 18)) ↔ (n ≤ℤ most') =
     subst (λ (x : ℤ). ((n *ℤ pos (grid d)) ≤ℤ pos (1000 * 10 ^ 18)) ↔ (n ≤ℤ x)) (sym m)
-    (subst (λ (x : ℕ). ((n *ℤ pos x) ≤ℤ pos (1000 * 10 ^ 18)) ↔ (n ≤ℤ most)) e (mosts n)) in
-  ((λ a. (low.0 a.low, (lessers n).1 (high.0 a.high, limit.0 a.most))),
-  (λ w. record { low = low.1 w.0; high = high.1 ((lessers n).0 w.1).0; most = limit.1 ((lessers n).0 w.1).1 }))
+    (subst (λ (x : ℕ). ((n *ℤ pos x) ≤ℤ pos (1000 * 10 ^ 18)) ↔ (n ≤ℤ most)) e (mosts n)) in (
+      (λ a. (low.0 a.low, (lessers n).1 (high.0 a.high, limit.0 a.most))),
+      (λ w. record { low = low.1 w.0; high = high.1 ((lessers n).0 w.1).0; most = limit.1 ((lessers n).0 w.1).1 }),
+    )
 
 pub band_between : (d b : ℕ) (old least greatest : ℤ) (band : BandView) → band.least ≡ least → band.greatest ≡ greatest
-  → ((n : ℤ) → IsAllowed d b old n ↔ ((least ≤ℤ n) × (n ≤ℤ greatest))) → least ≤ℤ greatest → IsBand (IsAllowed d b old) band
+    → ((n : ℤ) → IsAllowed d b old n ↔ ((least ≤ℤ n) × (n ≤ℤ greatest))) → least ≤ℤ greatest → IsBand (IsAllowed d b old) band
 band_between d b old least greatest band e f law h = record {
   least = record {
     has = (law band.least).1 (omega (arith, ints), omega (arith, ints));

@@ -1,5 +1,5 @@
 -- What stops a publication is a cause to refuse it; and a clock is small.
-use Rattle.std.proofs.Common.{◌≡◌, ◌⊎◌, ℕ, ◌*◌, ◌^◌, ◌<◌, ◌≤◌, List, refl, inl, inr, arith}
+use Rattle.std.proofs.Common.{◌≡◌, ◌⊎◌, List, refl, inl, inr}
 use Rattle.sk_clock.specs.Row.{RowView}
 use Rattle.sk_clock.specs.Clock.{ClockView}
 use Rattle.sk_triples.specs.Terms.{TripleView}
@@ -13,8 +13,8 @@ use Rattle.sk_fit.specs.Causes.{Refuses, input}
 use Rattle.sk_fit.specs.Fitted.{StopsAt}
 
 pub stopped : (triples : TriplesView) (clock : ClockView) (rows : List RowView) (settings : Settings) (old : TripleView) (fault : FitFault)
-  → Begins (input triples clock rows settings) old → StopsAt (terms_of settings clock old) rows fault
-  → (fault ≡ NoMemory) ⊎ Refuses (input triples clock rows settings) rows fault
+    → Begins (input triples clock rows settings) old → StopsAt (terms_of settings clock old) rows fault
+    → (fault ≡ NoMemory) ⊎ Refuses (input triples clock rows settings) rows fault
 stopped triples clock rows settings old (NoRate number) begins h = inr (old, begins, h)
 stopped triples clock rows settings old (TimeFalls number) begins h = inr (old, begins, h)
 stopped triples clock rows settings old NoMemory begins h = inl refl

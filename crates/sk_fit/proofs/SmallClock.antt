@@ -1,5 +1,5 @@
 -- A clock keeps to the ranges that arithmetic needs.
-use Rattle.std.proofs.Common.{◌*◌, ◌^◌, ◌<◌, ◌≤◌, ◌-◌, ℕ, List, drop}
+use Rattle.std.proofs.Common.{◌^◌, ◌-◌, drop}
 use Rattle.std.proofs.lemmas.List.Elements.{All-drop}
 use Rattle.std.specs.Int.{IsInRange}
 use Rattle.sk_clock.specs.Clock.{ClockView, IsClock}

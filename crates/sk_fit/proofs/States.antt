@@ -1,21 +1,19 @@
 -- The state of a fit after one more observation.
-use Rattle.std.proofs.Common.{◌≡◌, ◌≢◌, ◌⊎◌, ℕ, suc, ◌+◌, ◌<◌, ◌≤◌, Bool, true, false, List, [], ◌∷◌, ◌++◌, length, refl, sym, ap, subst, inl, inr, ◌∙◌, append-nil, length-append, arith, map, if◌then◌else◌}
-use Rattle.std.proofs.lemmas.Int.{ints}
-use Rattle.std.specs.Prelude.{ℤ, pos, ◌≤ℤ◌, ◌==◌, Option, Some, None}
+use Rattle.std.proofs.Common.{◌≡◌, ◌≢◌, ◌⊎◌, ℕ, ◌+◌, ◌<◌, ◌≤◌, Bool, false, List, [], ◌∷◌, ◌++◌, refl, sym, ap, subst, inl, inr, ◌∙◌, arith, map, if◌then◌else◌}
+use Rattle.std.specs.Prelude.{ℤ}
 use Rattle.std.specs.List.{AllByRecursion}
 use Rattle.std.proofs.lemmas.Bool.Decides.{eqb_tells}
 use Rattle.sk_decimal.specs.declared.fixed.Fixed.{Fixed}
 use Rattle.sk_fit.specs.declared.settings.Line.{Line}
 use Rattle.sk_fit.specs.declared.chain.Segment.{Segment}
 use Rattle.sk_fit.specs.declared.chain.End.{End}
-use Rattle.sk_fit.specs.declared.chain.End.TheVariants.{Last}
-use Rattle.sk_triples.specs.Terms.{Sight, Anchor, Terms, in_seconds}
-use Rattle.sk_triples.specs.Chain.{EndView, LastEnd, SegmentView, last_of, left_at, rounded_up, IsInPartition}
-use Rattle.sk_triples.specs.Built.{Built, longer, beginning}
+use Rattle.sk_triples.specs.Terms.{Sight, Anchor, Terms}
+use Rattle.sk_triples.specs.Chain.{EndView, LastEnd, SegmentView}
+use Rattle.sk_triples.specs.Built.{longer, beginning}
 use Rattle.sk_triples.proofs.Lists.{all_append, all_map}
 use Rattle.sk_triples.proofs.Steps.{ended_as}
-use Rattle.sk_fit.specs.Given.{segment_view, end_view, anchor_of, covered_between, IsRate}
-use Rattle.sk_fit.specs.State.{HoldsLine, FittingView, first_from, gone_on, bounded, begun_at, dropped_at, front_of, open_of, HasPlaces, IsOpen, IsFitting, IsAt}
+use Rattle.sk_fit.specs.Given.{segment_view, end_view, anchor_of, covered_between}
+use Rattle.sk_fit.specs.State.{FittingView, first_from, gone_on, begun_at, dropped_at, front_of, open_of, HasPlaces, IsAt}
 use Rattle.sk_fit.proofs.Places.{Gap, is_in, covers_more, covers_none, covers_same, gap_more, no_gap, in_none}
 
 abbrev made : Anchor → ℤ → EndView → List Sight → SegmentView
@@ -33,55 +31,56 @@ places-append (x ∷ xs) ys = ap (λ (z : List ℕ). x.place ∷ z) (places-appe
 
 -- one observation alone
 covers_one : (all : List Sight) (n : ℕ) (dropped : List ℕ) (o : Sight) → IsAt all n o → is_in dropped n ≡ false
-  → covered_between all dropped n (n + 1) ≡ o ∷ []
+    → covered_between all dropped n (n + 1) ≡ o ∷ []
 covers_one all n dropped o a kept = covers_more all dropped n n n o a (omega arith) (omega arith) (no_gap all dropped n) kept
-  ∙ ap (λ (z : List Sight). z ++ o ∷ []) (covers_none all dropped n)
+    ∙ ap (λ (z : List Sight). z ++ o ∷ []) (covers_none all dropped n)
 
 covers_on : (all : List Sight) (n : ℕ) (f : FittingView) (dropped : List Sight) (o : Sight) → HasPlaces all n f dropped → IsAt all n o
-  → covered_between all f.dropped (first_from f.open_one n) (n + 1) ≡ covered_between all f.dropped f.open_one.first f.open_one.past ++ o ∷ []
+    → covered_between all f.dropped (first_from f.open_one n) (n + 1) ≡ covered_between all f.dropped f.open_one.first f.open_one.past ++ o ∷ []
 covers_on all n f dropped o h a =
-  let kept : is_in f.dropped n ≡ false = in_none f.dropped n h.dropped_before in
-  elim (eqb_tells f.open_one.first f.open_one.past) [
-    | inl w ↦ ap (λ (b : Bool). covered_between all f.dropped (if b then n else f.open_one.first) (n + 1)) w.0
-      ∙ covers_one all n f.dropped o a kept
-      ∙ sym (ap (λ (z : List Sight). z ++ o ∷ []) (ap (λ (p : ℕ). covered_between all f.dropped p f.open_one.past) w.1 ∙ covers_none all f.dropped f.open_one.past))
-    | inr w ↦ ap (λ (b : Bool). covered_between all f.dropped (if b then n else f.open_one.first) (n + 1)) w.0
-      ∙ covers_more all f.dropped f.open_one.first f.open_one.past n o a (let p = h.ordered in let q = h.open_before in omega arith) h.open_before (gap h.gap w.1) kept
-  ]
+    let kept : is_in f.dropped n ≡ false = in_none f.dropped n h.dropped_before in
+    elim (eqb_tells f.open_one.first f.open_one.past) [
+      | inl w ↦ ap (λ (b : Bool). covered_between all f.dropped (if b then n else f.open_one.first) (n + 1)) w.0
+          ∙ covers_one all n f.dropped o a kept
+          ∙ sym (ap (λ (z : List Sight). z ++ o ∷ []) (ap (λ (p : ℕ). covered_between all f.dropped p f.open_one.past) w.1 ∙ covers_none all f.dropped f.open_one.past))
+      | inr w ↦ ap (λ (b : Bool). covered_between all f.dropped (if b then n else f.open_one.first) (n + 1)) w.0
+          ∙ covers_more all f.dropped f.open_one.first f.open_one.past n o a (let p = h.ordered in let q = h.open_before in omega arith) h.open_before (gap h.gap w.1) kept
+    ]
   where
     gap : ((f.open_one.first ≡ f.open_one.past) ⊎ Gap all f.dropped f.open_one.past n) → f.open_one.first ≢ f.open_one.past → Gap all f.dropped f.open_one.past n
     gap (inl e) ne = absurd (ne e)
     gap (inr g) ne = g
 
 pub open_on : (all : List Sight) (n : ℕ) (f : FittingView) (dropped : List Sight) (o : Sight) (rate : Fixed 18) → HasPlaces all n f dropped → IsAt all n o
-  → open_of all (gone_on f n o.tick rate) ≡ longer (open_of all f) o rate.units
+    → open_of all (gone_on f n o.tick rate) ≡ longer (open_of all f) o rate.units
 open_on all n f dropped o rate h a = ap (made (anchor_of f.open_one.anchor) rate.units LastEnd) (covers_on all n f dropped o h a)
 
 pub open_begun : (all : List Sight) (n : ℕ) (f : FittingView) (dropped : List Sight) (o : Sight) (ended : End) (anchor : Line) (rate : Fixed 18) (least greatest : ℤ)
-  → HasPlaces all n f dropped → IsAt all n o
-  → open_of all (begun_at f ended anchor rate n o.tick least greatest) ≡ beginning (anchor_of anchor) o rate.units
+    → HasPlaces all n f dropped → IsAt all n o
+    → open_of all (begun_at f ended anchor rate n o.tick least greatest) ≡ beginning (anchor_of anchor) o rate.units
 open_begun all n f dropped o ended anchor rate least greatest h a =
-  ap (made (anchor_of anchor) rate.units LastEnd) (covers_one all n f.dropped o a (in_none f.dropped n h.dropped_before))
+    ap (made (anchor_of anchor) rate.units LastEnd) (covers_one all n f.dropped o a (in_none f.dropped n h.dropped_before))
 
 pub front_begun : (t : Terms) (all : List Sight) (n : ℕ) (f : FittingView) (o : Sight) (ended : End) (anchor : Line) (rate : Fixed 18) (least greatest : ℤ)
-  → front_of all (begun_at f ended anchor rate n o.tick least greatest) ≡ front_of all f ++ ended_as t (open_of all f) (end_view ended) ∷ []
+    → front_of all (begun_at f ended anchor rate n o.tick least greatest) ≡ front_of all f ++ ended_as t (open_of all f) (end_view ended) ∷ []
 front_begun t all n f o ended anchor rate least greatest = map-append (segment_view all f.dropped) f.closed (record f.open_one { ended = ended } ∷ [])
 
 pub open_dropped : (all : List Sight) (n : ℕ) (f : FittingView) (dropped : List Sight) → HasPlaces all n f dropped
-  → open_of all (dropped_at f n) ≡ open_of all f
+    → open_of all (dropped_at f n) ≡ open_of all f
 open_dropped all n f dropped h = ap (made (anchor_of f.open_one.anchor) f.open_one.rate.units (end_view f.open_one.ended))
-  (covers_same all f.dropped f.open_one.first f.open_one.past n h.open_before)
+    (covers_same all f.dropped f.open_one.first f.open_one.past n h.open_before)
 
 pub front_dropped : (all : List Sight) (n : ℕ) (f : FittingView) (dropped : List Sight) → HasPlaces all n f dropped
-  → front_of all (dropped_at f n) ≡ front_of all f
+    → front_of all (dropped_at f n) ≡ front_of all f
 front_dropped all n f dropped h = each f.closed h.closed_before
   where
     one : (s : Segment) → s.past ≤ n → segment_view all (f.dropped ++ n ∷ []) s ≡ segment_view all f.dropped s
     one s p = ap (made (anchor_of s.anchor) s.rate.units (end_view s.ended)) (covers_same all f.dropped s.first s.past n p)
+
     each : (xs : List Segment) → AllByRecursion (λ s. s.past ≤ n) xs → map (segment_view all (f.dropped ++ n ∷ [])) xs ≡ map (segment_view all f.dropped) xs
     each [] w = refl
     each (x ∷ xs) w = ap (λ (z : SegmentView). z ∷ map (segment_view all (f.dropped ++ n ∷ [])) xs) (one x w.0)
-      ∙ ap (λ (z : List SegmentView). segment_view all f.dropped x ∷ z) (each xs w.1)
+        ∙ ap (λ (z : List SegmentView). segment_view all f.dropped x ∷ z) (each xs w.1)
 
 weaker_places : (n : ℕ) (xs : List ℕ) → AllByRecursion (λ d. d < n) xs → AllByRecursion (λ d. d < n + 1) xs
 weaker_places n xs h = all_map _ _ (λ x l. omega arith) xs h
@@ -90,7 +89,7 @@ weaker_segments : (n : ℕ) (xs : List Segment) → AllByRecursion (λ s. s.past
 weaker_segments n xs h = all_map _ _ (λ x l. omega arith) xs h
 
 pub places_on : (all : List Sight) (n : ℕ) (f : FittingView) (dropped : List Sight) (tick : ℕ) (rate : Fixed 18) → HasPlaces all n f dropped
-  → HasPlaces all (n + 1) (gone_on f n tick rate) dropped
+    → HasPlaces all (n + 1) (gone_on f n tick rate) dropped
 places_on all n f dropped tick rate h = record {
   places = h.places;
   dropped_before = weaker_places n f.dropped h.dropped_before;
@@ -104,7 +103,7 @@ places_on all n f dropped tick rate h = record {
 }
 
 pub places_begun : (all : List Sight) (n : ℕ) (f : FittingView) (dropped : List Sight) (tick : ℕ) (ended : End) (anchor : Line) (rate : Fixed 18) (least greatest : ℤ)
-  → HasPlaces all n f dropped → HasPlaces all (n + 1) (begun_at f ended anchor rate n tick least greatest) dropped
+    → HasPlaces all n f dropped → HasPlaces all (n + 1) (begun_at f ended anchor rate n tick least greatest) dropped
 places_begun all n f dropped tick ended anchor rate least greatest h = record {
   places = h.places;
   dropped_before = weaker_places n f.dropped h.dropped_before;
@@ -115,7 +114,7 @@ places_begun all n f dropped tick ended anchor rate least greatest h = record {
 }
 
 pub places_dropped : (all : List Sight) (n : ℕ) (f : FittingView) (dropped : List Sight) (o : Sight) → o.place ≡ n → HasPlaces all n f dropped
-  → HasPlaces all (n + 1) (dropped_at f n) (dropped ++ o ∷ [])
+    → HasPlaces all (n + 1) (dropped_at f n) (dropped ++ o ∷ [])
 places_dropped all n f dropped o e h = record {
   places = ap (λ (z : List ℕ). z ++ n ∷ []) h.places ∙ ap (λ (m : ℕ). map (λ o. o.place) dropped ++ m ∷ []) (sym e) ∙ sym (places-append dropped (o ∷ []));
   dropped_before = all_append _ f.dropped (n ∷ []) (weaker_places n f.dropped h.dropped_before) (omega arith, tt);

@@ -1,5 +1,5 @@
 -- The state of a fit: what is built so far, by places, and when that is a publication of what came.
-use Rattle.std.specs.Prelude.{◌≡◌, ◌⊎◌, ℕ, ◌+◌, ◌*◌, ◌^◌, ◌<◌, ◌≤◌, ℤ, pos, neg_ℤ, ◌≤ℤ◌, ◌*ℤ◌, List, [], ◌∷◌, ◌++◌, map, length, Bool, true, ◌==◌, if◌then◌else◌}
+use Rattle.std.specs.Prelude.{◌≡◌, ◌⊎◌, ℕ, ◌+◌, ◌*◌, ◌^◌, ◌<◌, ◌≤◌, ℤ, pos, neg_ℤ, ◌≤ℤ◌, ◌*ℤ◌, List, [], ◌∷◌, ◌++◌, map, length, true, ◌==◌, if◌then◌else◌}
 use Rattle.std.specs.List.{AllByRecursion, list_any}
 use Rattle.sk_decimal.specs.declared.fixed.Fixed.{Fixed}
 use Rattle.sk_fit.specs.declared.settings.Line.{Line}
@@ -7,7 +7,7 @@ use Rattle.sk_fit.specs.declared.chain.Segment.{Segment}
 use Rattle.sk_fit.specs.declared.fault.FitFault.{FitFault}
 use Rattle.sk_fit.specs.declared.fault.FitFault.TheVariants.{NoRate, TimeFalls, NoMemory}
 use Rattle.sk_fit.specs.declared.chain.End.{End}
-use Rattle.sk_fit.specs.declared.chain.End.TheVariants.{Last, Partition, Fixed as FixedWithin, Blocked}
+use Rattle.sk_fit.specs.declared.chain.End.TheVariants.{Last}
 use Rattle.sk_triples.specs.Terms.{Sight, Terms, TripleView, in_seconds}
 use Rattle.sk_triples.specs.Chain.{SegmentView, IsInPartition, left_at, rounded_up}
 use Rattle.sk_triples.specs.Kept.{SortsNext, is_new, HasNoRate, HasTimeFall}
@@ -58,7 +58,11 @@ abbrev pub begun_at : FittingView → End → Line → Fixed 18 → ℕ → ℕ 
 begun_at f ended anchor rate place tick least greatest = record f {
   closed = f.closed ++ record f.open_one { ended = ended } ∷ [];
   open_one = record { anchor = anchor; rate = rate; first = place; past = place + 1; ended = Last };
-  left = tick; low = place; high = place; least = least; greatest = greatest;
+  left = tick;
+  low = place;
+  high = place;
+  least = least;
+  greatest = greatest;
 }
 
 abbrev pub dropped_at : FittingView → ℕ → FittingView
@@ -67,13 +71,20 @@ dropped_at f place = record f { dropped = f.dropped ++ place ∷ [] }
 -- nothing is covered yet: the line of the old last triple is left at the seam, and observations are to come from a place on
 abbrev pub fresh : TripleView → ℕ → ℕ → FittingView
 fresh old left place = record {
-    closed = [];
-    open_one = record {
-        anchor = record { ticks = old.anchor.ticks; time = record { units = old.anchor.time } };
-        rate = record { units = old.rate };
-        first = place; past = place; ended = Last;
-    };
-    left = left; low = place; high = place; least = pos 0; greatest = pos 0; dropped = [];
+  closed = [];
+  open_one = record {
+    anchor = record { ticks = old.anchor.ticks; time = record { units = old.anchor.time } };
+    rate = record { units = old.rate };
+    first = place;
+    past = place;
+    ended = Last;
+  };
+  left = left;
+  low = place;
+  high = place;
+  least = pos 0;
+  greatest = pos 0;
+  dropped = [];
 }
 
 -- ---- when it is a publication of the first n observations
@@ -146,7 +157,7 @@ IsBuilt t all n f = (kept : List Sight) × (dropped : List Sight) × IsFitting t
 -- One observation more leaves a publication of what came, with what is kept and dropped by then.
 abbrev pub Moves : Terms → List Sight → ℕ → Sight → FittingView → FittingView → Type 0
 Moves t all n o f f' = (kept dropped : List Sight) → IsFitting t all n f kept dropped
-  → (kept' : List Sight) × (dropped' : List Sight) × SortsNext t kept dropped o kept' dropped' × IsFitting t all (n + 1) f' kept' dropped'
+    → (kept' : List Sight) × (dropped' : List Sight) × SortsNext t kept dropped o kept' dropped' × IsFitting t all (n + 1) f' kept' dropped'
 
 -- the next observation is in its place, new, and in the ranges of observations
 pub record IsNextOne (t : Terms) (clock : ClockView) (all : List Sight) (n : ℕ) (o : Sight) : Type 0 where

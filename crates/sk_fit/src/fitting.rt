@@ -114,7 +114,15 @@ fn fitted(
     let mut fitting = Fitting::new(alloc, start.old, start.seam, first_new);
     for place in first_new..observations.len() {
         let obs = &observations[place];
-        match fitting.next(clock, settings, start.band, &start.old, observations, place, obs) {
+        match fitting.next(
+            clock,
+            settings,
+            start.band,
+            &start.old,
+            observations,
+            place,
+            obs,
+        ) {
             Ok(()) => (),
             Err(fault) => return Err(fault),
         }

@@ -10,20 +10,20 @@ ghost use Rattle.sk_triples.specs.Kept.{HasNoRate, HasTimeFall};
 ghost use Rattle.sk_fit.specs.Given.{AreSettings, gauge_of, terms_of, anchor_of, sight_at, band_view, end_view, IsUsableBand};
 ghost use Rattle.sk_fit.specs.State.{fresh, gone_on, bounded, StopsBy, begun_at, dropped_at, open_of, IsBuilt, IsNextOne, IsFitting, Moves};
 
-use crate::chain::{Chain, End, Segment};
 use crate::anchors::{anchored_at, line_at, middle_rate, rounded_up};
+use crate::chain::{Chain, End, Segment};
 use crate::fault::FitFault;
 use crate::partitions::are_together;
 use crate::products::{is_less, scaled};
 use crate::rates::{bounds, meets};
 use crate::settings::{Band, Bounds, Line, Settings};
+use sk_checks::NoMemory;
 use sk_clock::Clock;
 use sk_decimal::Fixed;
 use sk_grammar::List;
 use sk_obs::Observation;
 use sk_triples::Triple;
 use std::alloc::Global;
-use sk_checks::NoMemory;
 use std::marker::Model;
 
 /// What is built of a publication so far: closed segments, the open one, and the places that are dropped.
@@ -47,14 +47,14 @@ impl Model for Fitting {
     ghost Value = { FittingView };
 
     ghost view = { λ f. record {
-        closed = f.closed.items;
-        open_one = f.open_one;
-        left = f.left;
-        low = f.low;
-        high = f.high;
-        least = f.least;
-        greatest = f.greatest;
-        dropped = f.dropped.items;
+      closed = f.closed.items;
+      open_one = f.open_one;
+      left = f.left;
+      low = f.low;
+      high = f.high;
+      least = f.least;
+      greatest = f.greatest;
+      dropped = f.dropped.items;
     } };
 }
 
@@ -374,7 +374,16 @@ impl Fitting {
         if went {
             return Ok(true);
         }
-        self.leave_within(clock, settings, band, old, observations, place, obs, End::Fixed)
+        self.leave_within(
+            clock,
+            settings,
+            band,
+            old,
+            observations,
+            place,
+            obs,
+            End::Fixed,
+        )
     }
 
     /// One observation more in the partition of a later segment; `false` where no allowed rate meets it.
@@ -410,7 +419,10 @@ impl Fitting {
                 observations,
                 place,
                 obs,
-                End::Blocked { low: pair.low, high: pair.high },
+                End::Blocked {
+                    low: pair.low,
+                    high: pair.high,
+                },
             ),
         }
     }
@@ -443,7 +455,15 @@ impl Fitting {
     }
 
     /// The line of the open segment is later than the observation.
-    fn is_late(&self, clock: &Clock, settings: &Settings, old: &Triple, observations: &[Observation], place: usize, obs: &Observation) -> bool
+    fn is_late(
+        &self,
+        clock: &Clock,
+        settings: &Settings,
+        old: &Triple,
+        observations: &[Observation],
+        place: usize,
+        obs: &Observation,
+    ) -> bool
         requires built { IsBuilt (terms_of settings.now clock.now old.now) (sights observations.now) place self.now }
         requires next { IsNextOne (terms_of settings.now clock.now old.now) clock.now (sights observations.now) place (sight_at place obs.now) }
         ensures { IsTrue result ↔ (scaled_time (gauge_of settings.now clock.now) obs.now.time <ℤ line_of (gauge_of settings.now clock.now) (open_of (sights observations.now) self.now).anchor (open_of (sights observations.now) self.now).rate obs.now.tick) }

@@ -1,10 +1,9 @@
-use Rattle.std.proofs.Common.{◌≡◌, ℕ, ◌<◌, ◌≤◌, arith, subst, sym, ap, ◌∙◌}
+use Rattle.std.proofs.Common.{◌≡◌, ℕ, ◌<◌, arith, subst, sym}
 use Rattle.std.proofs.lemmas.Int.{ints, to_z-of_z}
 use mir.Syntax.{w128}
 use mir.Val.{to_z, of_z}
 use Rattle.std.specs.Prelude.{ℤ, pos, ◌*ℤ◌, ◌≤ℤ◌, ◌<ℤ◌}
 use Rattle.sk_decimal.proofs.Signed.{mul-le_right}
-use Rattle.sk_fit.proofs.Quotients.{passed_small}
 use Rattle.sk_fit.proofs.anchors.on_grid.Goals as goal
 
 positive : (s : ℤ) (g : ℕ) → pos 1 ≤ℤ s → 0 < g → pos 0 <ℤ (s *ℤ pos g)
@@ -15,9 +14,9 @@ small z h k = omega (arith, ints)
 
 pub returns-clause-positive : goal.returns-clause-positive
 returns-clause-positive c =
-  let p = positive c.args.steps c.args.grid c.requires.from c.requires.positive in
-  let steps : to_z w128 (of_z w128 c.args.steps) ≡ c.args.steps = to_z-of_z w128 c.args.steps c.ranges.steps in
-  let step : to_z w128 c.args.grid ≡ pos c.args.grid = omega (arith, ints) in
-  let all : (to_z w128 (of_z w128 c.args.steps) *ℤ to_z w128 c.args.grid) ≡ (c.args.steps *ℤ pos c.args.grid) = cc in
-  subst (λ (x : ℤ). pos 0 <ℤ to_z w128 (of_z w128 x)) (sym all)
-  (subst (λ (x : ℤ). pos 0 <ℤ x) (sym (small (c.args.steps *ℤ pos c.args.grid) p c.requires.to)) p)
+    let p = positive c.args.steps c.args.grid c.requires.from c.requires.positive in
+    let steps : to_z w128 (of_z w128 c.args.steps) ≡ c.args.steps = to_z-of_z w128 c.args.steps c.ranges.steps in
+    let step : to_z w128 c.args.grid ≡ pos c.args.grid = omega (arith, ints) in
+    let all : (to_z w128 (of_z w128 c.args.steps) *ℤ to_z w128 c.args.grid) ≡ (c.args.steps *ℤ pos c.args.grid) = cc in
+    subst (λ (x : ℤ). pos 0 <ℤ to_z w128 (of_z w128 x)) (sym all)
+    (subst (λ (x : ℤ). pos 0 <ℤ x) (sym (small (c.args.steps *ℤ pos c.args.grid) p c.requires.to)) p)

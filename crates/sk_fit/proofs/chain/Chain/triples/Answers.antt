@@ -11,12 +11,12 @@ triples_after segments = map (λ s. record { anchor = anchor_of s.anchor; rate =
 
 pub extended-requires : goal.extended-requires
 extended-requires c =
-  let later : c.as_slice-2.result.now ≡ new_triples_of c.args.self.now =
+    let later : c.as_slice-2.result.now ≡ new_triples_of c.args.self.now =
     c.as_slice-2.ensures.value ∙ c.in_ok-later.ensures ∙ ap triples_after c.as_slice.ensures in
-  subst (λ (ts : List TripleView). AreTriples c.args.old.now.total (c.args.old.now.triples ++ ts)) (sym later) c.requires
+    subst (λ (ts : List TripleView). AreTriples c.args.old.now.total (c.args.old.now.triples ++ ts)) (sym later) c.requires
 
 pub returns : goal.returns
 returns c =
-  let later : c.as_slice-2.result.now ≡ new_triples_of c.args.self.now =
+    let later : c.as_slice-2.result.now ≡ new_triples_of c.args.self.now =
     c.as_slice-2.ensures.value ∙ c.in_ok-later.ensures ∙ ap triples_after c.as_slice.ensures in
-  subst (λ (ts : List TripleView). IfOk c.extended.result (λ (t : TriplesView). t ≡ record { triples = c.args.old.now.triples ++ ts; per_count = c.args.old.now.per_count; total = c.args.old.now.total })) later c.extended.ensures
+    subst (λ (ts : List TripleView). IfOk c.extended.result (λ (t : TriplesView). t ≡ record { triples = c.args.old.now.triples ++ ts; per_count = c.args.old.now.per_count; total = c.args.old.now.total })) later c.extended.ensures
