@@ -20,3 +20,6 @@ pub mod Looping
 pub mod News
 pub mod Begun
 pub mod Answered
+pub mod Placing
+pub mod Kept
+pub mod NewTriples

@@ -9,24 +9,20 @@ use Rattle.sk_fit.specs.declared.chain.End.{End}
 use Rattle.sk_triples.specs.Terms.{Sight, Anchor, Terms, in_seconds, partition_at}
 use Rattle.sk_triples.specs.Line.{Meets}
 use Rattle.sk_triples.specs.Rates.{IsFirstGreatest, IsFirstLeast, IsLeastRate, IsGreatestRate}
-use Rattle.sk_triples.specs.Chain.{SegmentView, IsAllowedStep, last_of, left_at, IsInPartition, anchor_due, IsNotLater, IsChain}
+use Rattle.sk_triples.specs.Chain.{SegmentView, IsAllowedStep, left_at, IsInPartition, anchor_due, IsNotLater, IsChain}
 use Rattle.sk_triples.specs.Kept.{is_new, HasNoRate, SortsNext}
 use Rattle.sk_triples.specs.Built.{Built, longer, beginning, middle_rate}
 use Rattle.sk_triples.proofs.Lists.{all_append, all_map, all_both, all_back}
 use Rattle.sk_triples.proofs.Steps.{ended_as}
 use Rattle.sk_triples.proofs.Fitting.{is_kept, is_dropped, first_goes_on, later_goes_on, begins}
 use Rattle.sk_fit.specs.Given.{segment_view, end_view, anchor_of, IsRate}
-use Rattle.sk_fit.specs.State.{HoldsLine, FittingView, gone_on, bounded, begun_at, dropped_at, front_of, open_of, HasPlaces, IsOpen, IsFitting, IsAt, Rises, HoldsDue}
+use Rattle.sk_fit.specs.State.{HoldsLine, FittingView, gone_on, bounded, begun_at, dropped_at, front_of, open_of, HasPlaces, IsOpen, IsFitting, IsAt, Rises, HoldsDue, old_number}
 use Rattle.sk_fit.proofs.States.{open_on, open_begun, front_begun, open_dropped, front_dropped, places_on, places_begun, places_dropped}
+use Rattle.sk_fit.proofs.Placing.{last_more, placed_on, placed_begun, placed_dropped}
 
 -- what holds of all holds of one
 pub at_place : (all : List Sight) (n : ℕ) (o : Sight) (P : Sight → Type 0) → IsAt all n o → AllByRecursion P all → P o
 at_place all n o P a h = (all_back P a.before (o ∷ a.after) (subst (AllByRecursion P) a.here h)).0
-
-last_more : (c : List Sight) (o : Sight) → last_of (c ++ o ∷ []) ≡ Some o
-last_more [] o = refl
-last_more (x ∷ []) o = refl
-last_more (x ∷ y ∷ c) o = last_more (y ∷ c) o
 
 left_longer : (t : Terms) (s : SegmentView) (o : Sight) (rate : ℤ) → left_at t (longer s o rate) ≡ o.tick
 left_longer t s o rate = rw (last_more s.covered o, left_at) refl
@@ -116,6 +112,7 @@ module _ (t : Terms) (all : List Sight) (n : ℕ) (f : FittingView) (o : Sight) 
           built = subst (λ (s : SegmentView). Built t (kept ++ o ∷ []) (front_of all f) s h.low h.high f.least f.greatest) (sym e) built;
           room = h.room;
           places = places_on all n f dropped o.tick f.open_one.rate h.places;
+          placed = placed_on (old_number t all) all n f dropped h.places h.placed o f.open_one.rate at;
           is_open = open_stays t all n f o dropped at rises h.is_open h.places f.open_one.rate here h.is_open.rate due;
         },
       )
@@ -141,6 +138,7 @@ module _ (t : Terms) (all : List Sight) (n : ℕ) (f : FittingView) (o : Sight) 
           built = subst (λ (s : SegmentView). Built t (kept ++ o ∷ []) (front_of all f) s low high least greatest) (sym e) built;
           room = h.room;
           places = again (places_on all n f dropped o.tick rate h.places);
+          placed = placed_on (old_number t all) all n f dropped h.places h.placed o rate at;
           is_open = again' (open_stays t all n f o dropped at rises h.is_open h.places rate here good due);
         },
       )
@@ -197,6 +195,7 @@ module _ (t : Terms) (all : List Sight) (n : ℕ) (f : FittingView) (o : Sight) 
           built = built';
           room = h.room;
           places = places_begun all n f dropped o.tick ended anchor rate least greatest h.places;
+          placed = placed_begun (old_number t all) all n f dropped h.places h.placed o ended anchor rate least greatest at;
           is_open = open_begins t all n f o dropped at rises h.is_open h.places ended anchor rate least greatest before whole line good holds;
         },
       )
@@ -216,6 +215,7 @@ module _ (t : Terms) (all : List Sight) (n : ℕ) (f : FittingView) (o : Sight) 
               (subst (λ (z : List SegmentView). Built t kept z (open_of all f) h.low h.high f.least f.greatest) (sym front) h.built);
           room = (let l = length-append dropped (o ∷ []) in omega arith);
           places = places_dropped all n f dropped o at.place h.places;
+          placed = placed_dropped (old_number t all) all n f dropped h.places h.placed;
           is_open = open_waits t all n f o dropped at rises h.is_open h.places;
         },
       )

@@ -18,8 +18,8 @@ use Rattle.sk_triples.specs.Built.{Built}
 use Rattle.sk_triples.proofs.Lists.{all_map}
 use Rattle.sk_triples.proofs.RoundedUp.{rounding_law, twice, power_positive}
 use Rattle.sk_fit.specs.declared.settings.Settings.{Settings}
-use Rattle.sk_fit.specs.Given.{terms_of}
-use Rattle.sk_fit.specs.State.{IsSmallClock, HoldsDue, HasPlaces, IsOpen, IsFitting, fresh, open_of}
+use Rattle.sk_fit.specs.Given.{terms_of, IsPlaced}
+use Rattle.sk_fit.specs.State.{IsSmallClock, HoldsDue, HasPlaces, IsOpen, IsFitting, fresh, open_of, old_number}
 use Rattle.sk_fit.proofs.Places.{covers_none}
 use Rattle.sk_fit.proofs.Ranges.{partition_rises}
 
@@ -146,7 +146,8 @@ due_alone t s tick twelve some few from to positive slow near = record {
 -- ---- what stands at the start
 
 module _ (settings : Settings) (clock : ClockView) (old : TripleView) (all : List Sight) (n : ℕ) (clocked : IsSmallClock clock) (is : IsTriple (total clock) old)
-    (hold : hold_of (terms_of settings clock old) ≤ total clock) (news : AllByRecursion (λ x. n ≤ x.place → is_new (terms_of settings clock old) x ≡ true) all) where
+    (hold : hold_of (terms_of settings clock old) ≤ total clock) (news : AllByRecursion (λ x. n ≤ x.place → is_new (terms_of settings clock old) x ≡ true) all)
+    (olds : n ≡ old_number (terms_of settings clock old) all) where
   places_fresh : HasPlaces all n (fresh old (seam (terms_of settings clock old)) n) []
   places_fresh = record {
     places = refl;
@@ -196,5 +197,6 @@ module _ (settings : Settings) (clock : ClockView) (old : TripleView) (all : Lis
         built = subst (λ (s : SegmentView). Built t [] [] s none none (pos 0) (pos 0)) (sym (open_alone all old (seam t) n)) (built_alone t none none (pos 0) (pos 0));
         room = omega arith;
         places = places_fresh;
+        placed = (subst (λ (c : List Sight). IsPlaced (old_number t all) c n n) (sym (covers_none all [] n)) (olds, olds), tt);
         is_open = open_fresh;
       }

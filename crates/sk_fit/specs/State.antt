@@ -1,5 +1,5 @@
 -- The state of a fit: what is built so far, by places, and when that is a publication of what came.
-use Rattle.std.specs.Prelude.{◌≡◌, ◌⊎◌, ℕ, ◌+◌, ◌*◌, ◌^◌, ◌<◌, ◌≤◌, ℤ, pos, neg_ℤ, ◌≤ℤ◌, ◌*ℤ◌, List, [], ◌∷◌, ◌++◌, map, length, true, ◌==◌, if◌then◌else◌}
+use Rattle.std.specs.Prelude.{◌≡◌, ◌⊎◌, ℕ, ◌+◌, ◌*◌, ◌^◌, ◌<◌, ◌≤◌, ℤ, pos, neg_ℤ, ◌≤ℤ◌, ◌*ℤ◌, List, [], ◌∷◌, ◌++◌, map, length, true, ◌==◌, if◌then◌else◌, count_by, not}
 use Rattle.std.specs.List.{AllByRecursion, list_any}
 use Rattle.sk_decimal.specs.declared.fixed.Fixed.{Fixed}
 use Rattle.sk_fit.specs.declared.settings.Line.{Line}
@@ -13,7 +13,7 @@ use Rattle.sk_triples.specs.Chain.{SegmentView, IsInPartition, left_at, rounded_
 use Rattle.sk_triples.specs.Kept.{SortsNext, is_new, HasNoRate, HasTimeFall}
 use Rattle.sk_clock.specs.Clock.{ClockView, ticks_per, total}
 use Rattle.sk_triples.specs.Built.{Built}
-use Rattle.sk_fit.specs.Given.{segment_view, IsRate}
+use Rattle.sk_fit.specs.Given.{segment_view, IsRate, ArePlaced}
 
 -- ---- what arithmetic needs
 
@@ -121,6 +121,10 @@ pub record IsOpen (t : Terms) (all : List Sight) (n : ℕ) (f : FittingView) : T
   pub rate : IsRate f.open_one.rate.units
   pub due_from : HoldsLine t.gauge.per_count (record { ticks = f.left; time = record { units = rounded_up t (open_of all f) f.left } })
 
+-- how many observations are old
+abbrev pub old_number : Terms → List Sight → ℕ
+old_number t all = count_by (λ o. not (is_new t o)) all
+
 pub record IsFitting (t : Terms) (all : List Sight) (n : ℕ) (f : FittingView) (kept dropped : List Sight) : Type 0 where
   pub low : Sight
   pub high : Sight
@@ -129,6 +133,7 @@ pub record IsFitting (t : Terms) (all : List Sight) (n : ℕ) (f : FittingView) 
   pub built : Built t kept (front_of all f) (open_of all f) low high f.least f.greatest
   pub room : length dropped ≤ t.reject
   pub places : HasPlaces all n f dropped
+  pub placed : ArePlaced (old_number t all) all f.dropped (f.closed ++ f.open_one ∷ [])
   pub is_open : IsOpen t all n f
 
 -- ---- the next observation

@@ -1,4 +1,4 @@
-ghost use Rattle.std.specs.Prelude.{All, ◌≡◌, ◌⊎◌, ◌≢◌, ◌↔◌, ◌<◌, ◌≤◌, ◌^◌, ◌+◌, ◌-◌, ◌∷◌, [], IfOk, IfErr, IsOk, Err, ℕ, List, IsTrue, take, length, Some, slice_get, nat_lt, ◌||◌, true, false, max, unwrap_or};
+ghost use Rattle.std.specs.Prelude.{All, ◌≡◌, ◌⊎◌, ◌≢◌, ◌↔◌, ◌<◌, ◌≤◌, ◌^◌, ◌+◌, ◌-◌, ◌∷◌, [], IfOk, IfErr, IsOk, Err, ℕ, List, IsTrue, take, length, Some, slice_get, nat_lt, ◌||◌, true, false, max, unwrap_or, ◌++◌};
 ghost use Rattle.std.specs.List.{AllByRecursion};
 ghost use Rattle.sk_clock.specs.Clock.{total, partition_at, IsClock};
 ghost use Rattle.sk_clock.specs.Row.{AreRows, RowView};
@@ -6,8 +6,8 @@ ghost use Rattle.sk_triples.specs.Terms.{sights};
 ghost use Rattle.sk_triples.specs.Rates.{IsBand};
 ghost use Rattle.sk_triples.specs.Chain.{IsAllowedStep};
 ghost use Rattle.sk_triples.specs.Kept.{is_new as is_new_in};
-ghost use Rattle.sk_triples.specs.Kernel.{AreOf};
-ghost use Rattle.sk_fit.specs.Given.{AreSettings, IsUsableBand, terms_of, band_view};
+ghost use Rattle.sk_triples.specs.Kernel.{AreOf, AreTriples};
+ghost use Rattle.sk_fit.specs.Given.{AreSettings, IsUsableBand, terms_of, band_view, ArePlaced, new_triples_of};
 ghost use Rattle.sk_fit.specs.State.{IsSmallClock, fresh};
 ghost use Rattle.sk_fit.specs.Fitted.{IsStart, IsFitted, StopsAt, is_new_tick, AreOldTicks, IsNewTick};
 ghost use Rattle.sk_fit.specs.Causes.{Gives, Refuses, input};
@@ -151,6 +151,8 @@ fn publication(
     requires observations { AreRows (total clock.now) observations.now }
     requires settings { AreSettings settings.now }
     ensures ok { IfOk result (Gives (input triples.now clock.now observations.now settings.now)) }
+    ensures placed { IfOk result (λ c. ArePlaced c.first_new (sights observations.now) c.dropped c.segments) }
+    ensures triples { IfOk result (λ c. AreTriples triples.now.total (triples.now.triples ++ new_triples_of c)) }
     ensures fault { IfErr result (λ f. (f ≡ FitFault.NoMemory) ⊎ Refuses (input triples.now clock.now observations.now settings.now) observations.now f) }
 {
     let start = match start_of(triples, clock, settings) {
@@ -184,6 +186,9 @@ pub fn fit(
     requires settings { AreSettings settings.now }
     // Only a publication is answered.
     ensures ok { IfOk result (Gives (input triples.now clock.now observations.now settings.now)) }
+    // Its places are those of what is covered, and old and new triples are those of a kernel.
+    ensures placed { IfOk result (λ c. ArePlaced c.first_new (sights observations.now) c.dropped c.segments) }
+    ensures triples { IfOk result (λ c. AreTriples triples.now.total (triples.now.triples ++ new_triples_of c)) }
     // What is refused has this cause.
     ensures fault { IfErr result (λ f. (f ≡ FitFault.NoMemory) ⊎ Refuses (input triples.now clock.now observations.now settings.now) observations.now f) }
     // Where there is a publication it is answered, unless memory runs out.

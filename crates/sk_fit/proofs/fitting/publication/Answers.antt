@@ -4,8 +4,9 @@ use Rattle.sk_fit.specs.Given.{band_view}
 use Rattle.sk_fit.specs.State.{FittingView}
 use Rattle.sk_fit.proofs.Answered.{untrue}
 use Rattle.sk_fit.proofs.Refused.{stopped}
-use Rattle.sk_fit.proofs.Begun.{news, begun, published, too_many}
+use Rattle.sk_fit.proofs.Begun.{news, begun, published, too_many, in_places}
 use Rattle.sk_fit.proofs.fitting.publication.Goals as goal
+use Rattle.sk_fit.proofs.NewTriples.{gives_triples}
 
 pub returns-in-Err-clause-fault : goal.returns-in-Err-clause-fault
 returns-in-Err-clause-fault c = inr (c.in-Err.ensures.fault c.args.observations.now)
@@ -13,12 +14,12 @@ returns-in-Err-clause-fault c = inr (c.in-Err.ensures.fault c.args.observations.
 pub fitted-requires-clause-new : goal.fitted-requires-clause-new
 fitted-requires-clause-new c =
     news c.args.triples.now c.args.clock.now c.args.settings.now c.args.observations.now c.in-Ok.start.old (band_view c.in-Ok.start.band) c.in-Ok.start.seam c.first_new_of-first_new.result
-    c.in-Ok.ensures.start c.requires.observations c.first_new_of-first_new.ensures.olds c.first_new_of-first_new.ensures.new
+    c.in-Ok.ensures.start c.requires.observations c.first_new_of-first_new.ensures.olds c.first_new_of-first_new.ensures.new c.first_new_of-first_new.ensures.within
 
 pub fitted-requires-clause-begun : goal.fitted-requires-clause-begun
 fitted-requires-clause-begun c =
     begun c.args.triples.now c.args.clock.now c.args.settings.now c.args.observations.now c.in-Ok.start.old (band_view c.in-Ok.start.band) c.in-Ok.start.seam c.first_new_of-first_new.result
-    c.in-Ok.ensures.start c.requires.observations c.first_new_of-first_new.ensures.olds c.first_new_of-first_new.ensures.new
+    c.in-Ok.ensures.start c.requires.observations c.first_new_of-first_new.ensures.olds c.first_new_of-first_new.ensures.new c.first_new_of-first_new.ensures.within
 
 pub returns-in-Err-fitted-clause-fault : goal.returns-in-Err-fitted-clause-fault
 returns-in-Err-fitted-clause-fault c =
@@ -45,7 +46,7 @@ returns-then-are_too_many-clause-fault c =
     let segments = ap length c.as_slice.ensures in
     let many = c.are_too_many.ensures.0 c.if-are_too_many.true in
     inr (too_many c.args.triples.now c.args.clock.now c.args.settings.now c.args.observations.now c.in-Ok.start.old (band_view c.in-Ok.start.band) c.in-Ok.start.seam c.first_new_of-first_new.result
-    c.in-Ok.ensures.start c.requires.observations c.first_new_of-first_new.ensures.olds c.first_new_of-first_new.ensures.new
+    c.in-Ok.ensures.start c.requires.observations c.first_new_of-first_new.ensures.olds c.first_new_of-first_new.ensures.new c.first_new_of-first_new.ensures.within
     c.in-Ok-fitted.fitting c.in-Ok-into_chain.chain c.in-Ok-into_chain.ensures c.in-Ok-fitted.ensures.ok (omega arith))
 
 pub returns-clause-ok : goal.returns-clause-ok
@@ -53,6 +54,23 @@ returns-clause-ok c =
     let old = ap length c.list.ensures.value in
     let segments = ap length c.as_slice.ensures in
     published c.args.triples.now c.args.clock.now c.args.settings.now c.args.observations.now c.in-Ok.start.old (band_view c.in-Ok.start.band) c.in-Ok.start.seam c.first_new_of-first_new.result
-    c.in-Ok.ensures.start c.requires.observations c.first_new_of-first_new.ensures.olds c.first_new_of-first_new.ensures.new
-    c.in-Ok-fitted.fitting c.in-Ok-into_chain.chain c.in-Ok-into_chain.ensures c.in-Ok-fitted.ensures.ok c.first_new_of-first_new.ensures.within
+    c.in-Ok.ensures.start c.requires.observations c.first_new_of-first_new.ensures.olds c.first_new_of-first_new.ensures.new c.first_new_of-first_new.ensures.within
+    c.in-Ok-fitted.fitting c.in-Ok-into_chain.chain c.in-Ok-into_chain.ensures c.in-Ok-fitted.ensures.ok
     (λ many. untrue c.are_too_many.result c.if-are_too_many.false (c.are_too_many.ensures.1 (omega arith)))
+
+pub returns-clause-placed : goal.returns-clause-placed
+returns-clause-placed c =
+    in_places c.args.triples.now c.args.clock.now c.args.settings.now c.args.observations.now c.in-Ok.start.old (band_view c.in-Ok.start.band) c.in-Ok.start.seam c.first_new_of-first_new.result
+    c.in-Ok.ensures.start c.requires.observations c.first_new_of-first_new.ensures.olds c.first_new_of-first_new.ensures.new c.first_new_of-first_new.ensures.within
+    c.in-Ok-fitted.fitting c.in-Ok-into_chain.chain c.in-Ok-into_chain.ensures c.in-Ok-fitted.ensures.ok
+
+pub returns-clause-triples : goal.returns-clause-triples
+returns-clause-triples c =
+    let old = ap length c.list.ensures.value in
+    let segments = ap length c.as_slice.ensures in
+    gives_triples c.args.triples.now c.args.clock.now c.args.observations.now c.args.settings.now c.in-Ok-into_chain.chain
+    c.requires.settings c.in-Ok.ensures.start.small c.list.ensures.kept c.requires.triples c.requires.observations
+    (published c.args.triples.now c.args.clock.now c.args.settings.now c.args.observations.now c.in-Ok.start.old (band_view c.in-Ok.start.band) c.in-Ok.start.seam c.first_new_of-first_new.result
+    c.in-Ok.ensures.start c.requires.observations c.first_new_of-first_new.ensures.olds c.first_new_of-first_new.ensures.new c.first_new_of-first_new.ensures.within
+    c.in-Ok-fitted.fitting c.in-Ok-into_chain.chain c.in-Ok-into_chain.ensures c.in-Ok-fitted.ensures.ok
+    (λ many. untrue c.are_too_many.result c.if-are_too_many.false (c.are_too_many.ensures.1 (omega arith))))
