@@ -1,3 +1,4 @@
+mod Worked
 pub mod Bounds
 pub mod Lists
 pub mod Chains
