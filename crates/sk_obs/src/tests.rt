@@ -1,3 +1,5 @@
+mod files;
+
 use crate::fault::ObsFault;
 use crate::observed::observed_time;
 use crate::reading::{next_row, row_reader};
