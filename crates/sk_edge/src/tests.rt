@@ -83,3 +83,47 @@ fn a_file_of_the_host_is_read(rt: HostRuntime) -> Result<(), Fail> {
     assert!(rt; write_all(&mut sink, b"").is_ok());
     Ok(())
 }
+
+#[test]
+fn each_call_of_a_reading_may_fail(rt: HostRuntime) -> Result<(), Fail> {
+    let alloc = rt.alloc();
+    // The choice, six reads of one byte, and the read that finds the end.
+    for call in 1..=9u64 {
+        let mut files = Vec::new(alloc);
+        files.push(file(alloc, "k", b"kernel")?)?;
+        let mut depot = MemoryDepot::new(files, vec![in alloc; 1]?, vec![in alloc; call]?);
+        let answer = read_all(alloc, &mut depot, "k", 6);
+        if call <= 8 {
+            assert!(rt; answer.err() == Some(ReadStop::Fault), "call {call}");
+        } else {
+            assert!(rt; answer.is_ok(), "call {call}");
+        }
+    }
+    Ok(())
+}
+
+#[test]
+fn each_call_of_a_writing_may_fail(rt: HostRuntime) -> Result<(), Fail> {
+    let alloc = rt.alloc();
+    // Four writes of two bytes; before the one that fails, these were written.
+    let table: [(u64, bool, &str); 5] = [
+        (1, false, ""),
+        (2, false, "ab"),
+        (3, false, "abcd"),
+        (4, false, "abcdef"),
+        (5, true, "abcdefgh"),
+    ];
+    for (call, is_whole, written) in table {
+        let mut sink = MemorySink::new(
+            vec![in alloc; 2]?,
+            vec![in alloc; call]?,
+            vec![in alloc; 0; 8]?,
+        );
+        assert!(rt;
+            write_all(&mut sink, b"abcdefgh").is_ok() == is_whole,
+            "call {call}"
+        );
+        assert_eq!(rt; sink.written(), written.as_bytes(), "call {call}");
+    }
+    Ok(())
+}
