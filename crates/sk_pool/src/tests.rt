@@ -11,7 +11,7 @@ fn has_few_items(doc: &Doc) -> bool
     ensures { IsTrue result → length (items_of doc.now) < 2 ^ 32 }
 {
     match doc.blocks.as_slice() {
-        [block] => block.items.as_slice().len() < 1000,
+        [block] => block.items.as_slice().len() < 1_000_000,
         _ => false,
     }
 }
@@ -19,7 +19,7 @@ fn has_few_items(doc: &Doc) -> bool
 fn read(rt: &(impl Abort + AllocGlobal), text: &[u8]) -> Result<Doc, Fail>
     ensures { IfOk result (λ doc. length (items_of doc) < 2 ^ 32) }
 {
-    assert!(rt; text.len() < 2000);
+    assert!(rt; text.len() < 4_000_000);
     let doc = read_doc(rt.alloc(), text)?;
     assert!(rt; has_few_items(&doc));
     Ok(doc)
@@ -166,4 +166,21 @@ fn one_number_is_one_number(rt: HostRuntime) -> Result<(), Fail> {
     expect_number(&rt, &pool, b"B", b"")?;
     expect_number(&rt, &pool, b"C", b"")?;
     expect_number(&rt, &pool, b"F", b"")
+}
+
+#[test]
+fn a_hundred_thousand_variables_are_found(rt: HostRuntime) -> Result<(), Fail> {
+    let alloc = rt.alloc();
+    let mut text = String::from_str(alloc, "\\begindata\n")?;
+    for k in 0..100_000u32 {
+        let item = format!(in alloc; "V{k}=1\n")?;
+        text.push_str(item.as_str())?;
+    }
+    text.push_str("V0 += 2\nV99999 = 3\n")?;
+    let doc = read(&rt, text.as_bytes())?;
+    let pool = Pool::of(alloc, &doc)?;
+    assert_eq!(rt; pool.names().len(), 100_000);
+    expect_shown(&rt, &pool, b"V0", b"1 2")?;
+    expect_shown(&rt, &pool, b"V50000", b"1")?;
+    expect_shown(&rt, &pool, b"V99999", b"3")
 }
