@@ -2,6 +2,7 @@
 use Rattle.std.proofs.Common.{rules, ◌≡◌, ◌⊎◌, ℕ, zero, suc, ◌<◌, ◌≤◌, List, [], ◌∷◌, ◌++◌, length, Option, Some, None, Result, Ok, Err, refl, sym, ap, subst, ◌∙◌, inl, inr, arith}
 use Rattle.std.specs.Prelude.{All, IsSome, IfSome, codes, unwrap_or, is_none, false, slice_index_or}
 use Rattle.std.specs.Option.{option_to_list, option_map_or}
+use Rattle.std.proofs.lemmas.Option.{same_Some}
 use Rattle.sk_checks.specs.Checks.{Judges}
 use Rattle.sk_grammar.specs.declared.fault.GrammarFault.{GrammarFault}
 use Rattle.sk_grammar.specs.Document.{DocView}
@@ -10,10 +11,14 @@ use Rattle.sk_grammar.specs.Canonical.{canonical_text, ended_by_line_feeds}
 use Rattle.sk_leap.specs.declared.pair.LeapPair.{LeapPair}
 use Rattle.sk_clock.specs.Clock.{ClockView}
 use Rattle.sk_clock.specs.Row.{RowView}
-use Rattle.sk_triples.specs.Kernel.{TriplesView}
+use Rattle.sk_obs.specs.Words.{word_checks, IsClockWord}
+use Rattle.sk_obs.proofs.Laws.{IsClockWord-one}
+use Rattle.sk_triples.specs.Terms.{TripleView}
+use Rattle.sk_triples.specs.Line.{covering}
+use Rattle.sk_triples.specs.Kernel.{TriplesView, range_checks}
 use Rattle.sk_report.specs.Report.{table_checks}
 use Rattle.sk_words.specs.declared.tables.Command.{Command}
-use Rattle.sk_words.specs.declared.tables.Command.TheVariants.{Residuals, Normal}
+use Rattle.sk_words.specs.declared.tables.Command.TheVariants.{Residuals, Normal, Convert}
 use Rattle.sk_words.specs.declared.tables.OptionName.TheVariants as opt
 use Rattle.sk_words.specs.Request.{Options, text_or, files_of, over_names}
 use Rattle.sk_words.specs.Asked.{Request, WordsAsk}
@@ -26,16 +31,17 @@ use Rattle.sk_status.specs.declared.status.LeapStop.TheVariants as leap_stop
 use Rattle.sk_status.specs.declared.status.KernelStop.TheVariants as kernel_stop
 use Rattle.sk_status.specs.declared.status.ObsStop.TheVariants as obs_stop
 use Rattle.sk_status.specs.Written.{Written}
-use Rattle.station.specs.Stage.{Stage, ◌>>=◌, gives, IsDetermined}
+use Rattle.station.specs.Stage.{Stage, ◌>>=◌, gives, some, IsDetermined}
 use Rattle.station.specs.Files as files
 use Rattle.station.specs.Files.{Source, KernelRead, reads, judged, document, refused_by, too_long, file_limit, sc_of, leap_named, leap_file, leap_meaning, leap_pool, leap_table, kernel_document, kernel_meaning, kernel_file, kernel_pool, kernel_clock, kernel_triples, observation_file, observed}
-use Rattle.station.specs.Output.{plain_table}
-use Rattle.station.specs.Outcome.{requested, outcome, outcome_of, residuals, normal, tabled, all_covered, status_of_report}
+use Rattle.station.specs.Output.{plain_table, tick_fields, time_by, line_of}
+use Rattle.station.specs.Time.{IsUtcWord}
+use Rattle.station.specs.Outcome.{requested, outcome, outcome_of, residuals, normal, convert, converted, covered, clock_tick, TickOf, tabled, all_covered, status_of_report}
 use Rattle.station.specs.Ending.{Ends, status_of, EndsOrMemory}
 use Rattle.station.proofs.Determined.{then_determined, judged_determined, gives_determined, judges_one}
-use Rattle.station.proofs.OneAnswer.{doc_one, pool_one, leap_one, clock_one, triples_one, table_single, words_one}
-use Rattle.station.proofs.OneRecord.{observations_one}
-use Rattle.station.proofs.Tails.{after_leap, after_kernel, after_observations, after_lines}
+use Rattle.station.proofs.OneAnswer.{doc_one, pool_one, leap_one, clock_one, triples_one, range_single, table_single, words_one}
+use Rattle.station.proofs.OneRecord.{observations_one, word_single}
+use Rattle.station.proofs.Tails.{after_leap, after_kernel, after_observations, after_lines, after_clock}
 use Rattle.station.proofs.Moves.{Moves, reads_moves, document_moves}
 
 -- ---- files
@@ -126,6 +132,63 @@ normal_determined : (source : Source) (options : Options) → IsCalm source → 
 normal_determined source options calm known =
     then_determined (kernel_document source options) (λ doc. gives (canonical_text doc)) (kernel_determined source options calm known) (λ doc. gives_determined (canonical_text doc))
 
+-- what the run ends with is determined, whatever it writes
+abbrev IsDecided : Stage (List ℕ) → Type 0
+IsDecided stage = (a b : Result (List ℕ) Status) → stage a → stage b → status_of a ≡ status_of b
+
+determined_decided : (stage : Stage (List ℕ)) → IsDetermined stage → IsDecided stage
+determined_decided stage one a b h k = ap status_of (one a b h k)
+
+then_decided : {A : Type 0} (first : Stage A) (next : A → Stage (List ℕ)) → IsDetermined first → ((a : A) → IsDecided (next a)) → IsDecided (first >>= next)
+then_decided {A} first next f n (Ok x) (Ok y) p q = refl
+then_decided {A} first next f n (Ok x) (Err s) p (inl q) = let e : ◌≡◌ {A = Result A Status} (Ok p.0) (Err s) = f (Ok p.0) (Err s) p.1 q in cc
+then_decided {A} first next f n (Ok x) (Err s) p (inr q) =
+    let e : ◌≡◌ {A = Result A Status} (Ok p.0) (Ok q.0) = f (Ok p.0) (Ok q.0) p.1 q.1 in
+    let same : p.0 ≡ q.0 = cc in
+    n q.0 (Ok x) (Err s) (subst (λ (a : A). next a (Ok x)) same p.2) q.2
+then_decided {A} first next f n (Err s) (Ok y) (inl p) q = let e : ◌≡◌ {A = Result A Status} (Err s) (Ok q.0) = f (Err s) (Ok q.0) p q.1 in cc
+then_decided {A} first next f n (Err s) (Ok y) (inr p) q =
+    let e : ◌≡◌ {A = Result A Status} (Ok p.0) (Ok q.0) = f (Ok p.0) (Ok q.0) p.1 q.1 in
+    let same : p.0 ≡ q.0 = cc in
+    n q.0 (Err s) (Ok y) (subst (λ (a : A). next a (Err s)) same p.2) q.2
+then_decided {A} first next f n (Err s) (Err u) (inl p) (inl q) = let e : ◌≡◌ {A = Result A Status} (Err s) (Err u) = f (Err s) (Err u) p q in cc
+then_decided {A} first next f n (Err s) (Err u) (inl p) (inr q) = let e : ◌≡◌ {A = Result A Status} (Err s) (Ok q.0) = f (Err s) (Ok q.0) p q.1 in cc
+then_decided {A} first next f n (Err s) (Err u) (inr p) (inl q) = let e : ◌≡◌ {A = Result A Status} (Ok p.0) (Err u) = f (Ok p.0) (Err u) p.1 q in cc
+then_decided {A} first next f n (Err s) (Err u) (inr p) (inr q) =
+    let e : ◌≡◌ {A = Result A Status} (Ok p.0) (Ok q.0) = f (Ok p.0) (Ok q.0) p.1 q.1 in
+    let same : p.0 ≡ q.0 = cc in
+    n q.0 (Err s) (Err u) (subst (λ (a : A). next a (Err s)) same p.2) q.2
+
+-- a word with a property, and a text with it in
+shown_decided : (P : List ℕ → Type 0) (text : List ℕ → List ℕ) → IsDecided (some P >>= (λ word. gives (text word)))
+shown_decided P text (Ok x) (Ok y) p q = refl
+shown_decided P text (Ok x) (Err s) p (inl q) = absurd q
+shown_decided P text (Ok x) (Err s) p (inr q) = let e : ◌≡◌ {A = Result (List ℕ) Status} (Err s) (Ok (text q.0)) = q.2 in cc
+shown_decided P text (Err s) b (inl p) q = absurd p
+shown_decided P text (Err s) b (inr p) q = let e : ◌≡◌ {A = Result (List ℕ) Status} (Err s) (Ok (text p.0)) = p.2 in cc
+
+covered_determined : (triples : TriplesView) (number tick : ℕ) → IsDetermined (covered triples number tick)
+covered_determined triples number tick =
+    let P : TripleView → Type 0 = λ triple. (n : ℕ) × (covering triples.triples tick ≡ Some (n, triple)) in
+    judged_determined (Judges (range_checks triples tick) P) (λ fault. ObservationRefused (obs_stop.Range number fault))
+    (judges_one (range_checks triples tick) P (range_single triples tick) (λ x y h k. ap (λ (p : ℕ × TripleView). p.1) (same_Some (h.0, x) (k.0, y) (sym h.1 ∙ k.1))))
+
+converted_decided : (leap : List LeapPair) (kernel : KernelRead) (tick : ℕ) → IsDecided (converted leap kernel tick)
+converted_decided leap kernel tick =
+    then_decided (covered kernel.triples 0 tick) (λ (triple : TripleView). some (IsUtcWord leap (time_by kernel triple tick)) >>= (λ utc. gives (line_of (tick_fields kernel triple tick ++ utc ∷ [])))) (covered_determined kernel.triples 0 tick)
+    (λ triple. shown_decided (IsUtcWord leap (time_by kernel triple tick)) (λ utc. line_of (tick_fields kernel triple tick ++ utc ∷ [])))
+
+tick_determined : (word : List ℕ) (clock : ClockView) → IsDetermined (clock_tick word clock)
+tick_determined word clock =
+    judged_determined (TickOf word clock) (λ w. ObservationRefused (obs_stop.Clock w)) (judges_one (word_checks clock word) (IsClockWord clock word) (word_single clock word) (IsClockWord-one clock word))
+
+convert_decided : (source : Source) (options : Options) → IsCalm source → IfSome (options opt.Leap) (λ name. IsSome (source.holds name)) → IsSome (source.holds (text_or opt.Kernel options)) → IsDecided (convert source options)
+convert_decided source options calm leap_known kernel_known =
+    then_decided (leap_file source options) (λ leap. kernel_file source options >>= after_clock options leap) (leap_determined source (options opt.Leap) calm leap_known)
+    (λ leap. then_decided (kernel_file source options) (after_clock options leap) (kernel_file_determined source options calm kernel_known)
+    (λ kernel. then_decided (clock_tick (text_or opt.Clock options) kernel.clock) (converted leap kernel) (tick_determined (text_or opt.Clock options) kernel.clock)
+    (λ tick. converted_decided leap kernel tick)))
+
 -- ---- the files of the words
 
 front_known : (P : List ℕ → Type 0) (names others : List (List ℕ)) → All P (names ++ others) → (k : ℕ) (d : List ℕ) → k < length names → P (slice_index_or names k d)
@@ -168,15 +231,17 @@ have_bytes source options h =
       observations = one_known P (options opt.Obs) (others_known P (leap ++ kernel) observations three);
     }
 
-command_determined : (command : Command) (source : Source) (options : Options) → IsCalm source → AreNamed command options → HaveBytes source options → IsDetermined (outcome_of command source options)
-command_determined Residuals source options calm named known =
-    residuals_determined source options calm record {
+command_decided : (command : Command) (source : Source) (options : Options) → IsCalm source → AreNamed command options → HaveBytes source options → IsDecided (outcome_of command source options)
+command_decided Residuals source options calm named known =
+    determined_decided (residuals source options) (residuals_determined source options calm record {
       leap = known.leap;
       kernel = named_known (λ name. IsSome (source.holds name)) (options opt.Kernel) named.0 known.kernel;
       observations = named_known (λ name. IsSome (source.holds name)) (options opt.Obs) named.1 known.observations;
-    }
-command_determined Normal source options calm named known =
-    normal_determined source options calm (named_known (λ name. IsSome (source.holds name)) (options opt.Kernel) named known.kernel)
+    })
+command_decided Normal source options calm named known =
+    determined_decided (normal source options) (normal_determined source options calm (named_known (λ name. IsSome (source.holds name)) (options opt.Kernel) named known.kernel))
+command_decided Convert source options calm named known =
+    convert_decided source options calm known.leap (named_known (λ name. IsSome (source.holds name)) (options opt.Kernel) named known.kernel)
 
 -- ---- another source that holds the same files
 
@@ -210,6 +275,12 @@ command_moved Residuals s u m options r h = residuals_moved s u m options r h
 command_moved Normal s u m options r h =
     then_moved (kernel_document s options) (kernel_document u options) (λ doc. gives (canonical_text doc)) (λ doc. gives (canonical_text doc)) (kernel_moved s u m options) (λ doc q k. k) r h
 
+command_moved Convert s u m options r h =
+    then_moved (leap_file s options) (leap_file u options) (λ leap. kernel_file s options >>= after_clock options leap) (λ leap. kernel_file u options >>= after_clock options leap) (leap_moved s u m (options opt.Leap))
+    (λ leap. then_moved (kernel_file s options) (kernel_file u options) (after_clock options leap) (after_clock options leap)
+    (then_moved (kernel_document s options) (kernel_document u options) (kernel_meaning (sc_of options)) (kernel_meaning (sc_of options)) (kernel_moved s u m options) (λ doc q k. k))
+    (λ kernel q k. k)) r h
+
 outcome_moved : (words : List (List ℕ)) (s u : Source) → Moves s u → (r : Result (List ℕ) Status) → outcome words s r → outcome words u r
 outcome_moved words s u m r h =
     then_moved (requested (codes "station" ∷ words)) (requested (codes "station" ∷ words)) (λ request. outcome_of request.command s request.options) (λ request. outcome_of request.command u request.options)
@@ -234,22 +305,22 @@ asked_for words request source (Err s) asked (inr h) =
     let is : h.0 ≡ request = cc in
     subst (λ (q : Request). outcome_of q.command source q.options (Err s)) is h.2
 
-outcome_determined : (words : List (List ℕ)) (request : Request) (source : Source) → IsCalm source → requested (codes "station" ∷ words) (Ok request)
-    → All (λ name. IsSome (source.holds name)) (files_of request.options) → IsDetermined (outcome words source)
-outcome_determined words request source calm asked known a b h k =
-    command_determined request.command source request.options calm (are_named (codes "station" ∷ words) request asked) (have_bytes source request.options known) a b
+outcome_decided : (words : List (List ℕ)) (request : Request) (source : Source) → IsCalm source → requested (codes "station" ∷ words) (Ok request)
+    → All (λ name. IsSome (source.holds name)) (files_of request.options) → IsDecided (outcome words source)
+outcome_decided words request source calm asked known a b h k =
+    command_decided request.command source request.options calm (are_named (codes "station" ∷ words) request asked) (have_bytes source request.options known) a b
     (asked_for words request source a asked h) (asked_for words request source b asked k)
 
-ended_so : (out : Written) (status : Status) (stage : Stage (List ℕ)) (ended : Result (List ℕ) Status) → (¬ out.rose) → IsDetermined stage → Ends stage out status → stage ended
+ended_so : (out : Written) (status : Status) (stage : Stage (List ℕ)) (ended : Result (List ℕ) Status) → (¬ out.rose) → IsDecided stage → Ends stage out status → stage ended
     → EndsOrMemory status (status_of ended)
-ended_so out Done stage ended calm one h k = inl (ap status_of (one (Ok h.0) ended h.1 k))
+ended_so out Done stage ended calm one h k = inl (one (Ok h.0) ended h.1 k)
 ended_so out WriteFault stage ended calm one h k = absurd (calm h.0)
 ended_so out NoMemory stage ended calm one h k = inr refl
-ended_so out _ stage ended calm one h k = inl (ap status_of (one (Err _) ended h.0 k))
+ended_so out _ stage ended calm one h k = inl (one (Err _) ended h.0 k)
 
 -- a run over a source of which no count rose, and an end of the same files
 pub completed : (words : List (List ℕ)) (request : Request) (source quiet : Source) (out : Written) (status : Status) (ended : Result (List ℕ) Status) → Moves quiet source → IsCalm source
     → (¬ out.rose) → requested (codes "station" ∷ words) (Ok request) → All (λ name. IsSome (source.holds name)) (files_of request.options)
     → Ends (outcome words source) out status → outcome words quiet ended → EndsOrMemory status (status_of ended)
 completed words request source quiet out status ended m calm quiet_out asked known h k =
-    ended_so out status (outcome words source) ended quiet_out (outcome_determined words request source calm asked known) h (outcome_moved words quiet source m ended k)
+    ended_so out status (outcome words source) ended quiet_out (outcome_decided words request source calm asked known) h (outcome_moved words quiet source m ended k)
