@@ -1,5 +1,6 @@
 -- The band of allowed rates is usable.
 use Rattle.std.proofs.Common.{◌≡◌, ℕ, ◌-◌, ◌*◌, ◌^◌, ◌<◌, ◌≤◌, ap, ◌∙◌, arith}
+use Rattle.sk_fit.proofs.Quotients.{through}
 use Rattle.std.proofs.lemmas.Int.{ints, by_lt_z}
 use Rattle.std.proofs.Math.Nat.{mul_assoc}
 use Rattle.std.specs.Prelude.{ℤ, pos, ◌+ℤ◌, ◌*ℤ◌, ◌≤ℤ◌, ◌<ℤ◌}
@@ -10,9 +11,6 @@ use Rattle.sk_triples.specs.Chain.{IsAllowedStep}
 use Rattle.sk_triples.proofs.RoundedUp.{power_positive}
 use Rattle.sk_triples.proofs.Decimals.{power_left}
 use Rattle.sk_fit.specs.Given.{IsUsableBand}
-
-through : (a b c : ℤ) → a ≤ℤ b → b ≤ℤ c → a ≤ℤ c
-through a b c p q = omega (arith, ints)
 
 -- a share of a rate above 0 is above 0
 share_positive : (old : ℤ) (share : ℕ) → pos 0 <ℤ old → 0 < share → pos 1 ≤ℤ (old *ℤ pos share)

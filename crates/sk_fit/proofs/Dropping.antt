@@ -1,18 +1,15 @@
 -- An observation is dropped where one more may be.
-use Rattle.std.proofs.Common.{◌≡◌, ℕ, suc, ◌<◌, ◌≤◌, true, List, [], ◌∷◌, ◌++◌, length, refl, ap, ◌∙◌, arith, map}
+use Rattle.std.proofs.Common.{◌≡◌, ℕ, ◌<◌, ◌≤◌, true, List, [], ◌∷◌, ◌++◌, length, ap, ◌∙◌, arith}
+use Rattle.std.proofs.lemmas.List.{length-map}
 use Rattle.sk_triples.specs.Terms.{Sight, Terms}
 use Rattle.sk_triples.specs.Kept.{is_new, HasNoRate}
 use Rattle.sk_fit.specs.State.{FittingView, dropped_at, IsFitting, IsAt, Rises, Moves}
 use Rattle.sk_fit.proofs.Moves.{waits}
 
-length-places : (xs : List Sight) → length (map (λ (o : Sight). o.place) xs) ≡ length xs
-length-places [] = refl
-length-places (x ∷ xs) = ap suc (length-places xs)
-
 module _ (t : Terms) (all : List Sight) (n : ℕ) (f : FittingView) where
   -- as many are dropped as places are kept of them
   dropped_number : (kept dropped : List Sight) → IsFitting t all n f kept dropped → length f.dropped ≡ length dropped
-  dropped_number kept dropped h = ap length h.places.places ∙ length-places dropped
+  dropped_number kept dropped h = ap length h.places.places ∙ length-map dropped (λ (o : Sight). o.place)
 
   pub room_gone : (kept dropped : List Sight) → IsFitting t all n f kept dropped → t.reject ≤ length f.dropped → length dropped ≡ t.reject
   room_gone kept dropped h full = let e = dropped_number kept dropped h in let r = h.room in omega arith

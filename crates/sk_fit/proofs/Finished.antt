@@ -1,12 +1,12 @@
 -- What is built over all observations is a publication.
-use Rattle.std.proofs.Common.{◌≡◌, ℕ, suc, ◌-◌, List, [], ◌∷◌, ◌++◌, length, refl, sym, ap, subst, ◌∙◌, arith, map}
+use Rattle.std.proofs.Common.{◌≡◌, ℕ, suc, ◌-◌, List, [], ◌∷◌, ◌++◌, length, refl, sym, ap, subst, ◌∙◌, arith}
+use Rattle.std.proofs.lemmas.List.{map-append, length-map}
 use Rattle.std.specs.Prelude.{count_by, not, flat_map, None}
 use Rattle.sk_triples.specs.Terms.{Sight, Terms, TripleView}
 use Rattle.sk_triples.specs.Chain.{SegmentView, new_triples, IsChain}
 use Rattle.sk_triples.specs.Kept.{Sorts, IsPublication, is_new}
 use Rattle.sk_triples.specs.Input.{Input, Begins, AreTooMany}
 use Rattle.sk_fit.specs.declared.chain.Chain.{Chain}
-use Rattle.sk_fit.specs.declared.chain.Segment.{Segment}
 use Rattle.sk_fit.specs.Given.{segment_view, segments_of}
 use Rattle.sk_fit.specs.State.{FittingView, IsFitting, front_of, open_of}
 use Rattle.sk_fit.specs.Causes.{Gives}
@@ -14,10 +14,6 @@ use Rattle.sk_fit.specs.Causes.{Gives}
 -- the chain of what is built
 abbrev pub finished : ℕ → FittingView → Chain
 finished first_new f = record { first_new = first_new; dropped = f.dropped; segments = f.closed ++ f.open_one ∷ [] }
-
-map-append : (f : Segment → SegmentView) (xs ys : List Segment) → map f (xs ++ ys) ≡ map f xs ++ map f ys
-map-append f [] ys = refl
-map-append f (x ∷ xs) ys = ap (λ (z : List SegmentView). f x ∷ z) (map-append f xs ys)
 
 segments_built : (all : List Sight) (first_new : ℕ) (f : FittingView) → segments_of all (finished first_new f) ≡ front_of all f ++ open_of all f ∷ []
 segments_built all first_new f = map-append (segment_view all f.dropped) f.closed (f.open_one ∷ [])
@@ -49,14 +45,10 @@ length-singles : (later : List SegmentView) → length {A = TripleView} (flat_ma
 length-singles [] = refl
 length-singles (s ∷ later) = ap suc (length-singles later)
 
-length-map : (f : Segment → SegmentView) (xs : List Segment) → length (map f xs) ≡ length xs
-length-map f [] = refl
-length-map f (x ∷ xs) = ap suc (length-map f xs)
-
 length-new : (ss : List SegmentView) → length (new_triples ss) ≡ length ss - 1
 length-new [] = refl
 length-new (s ∷ later) = length-singles later ∙ (omega arith)
 
 -- the new triples are one fewer than the segments
 pub new_triples_number : (all : List Sight) (chain : Chain) → length (new_triples (segments_of all chain)) ≡ length chain.segments - 1
-new_triples_number all chain = length-new (segments_of all chain) ∙ ap (λ (n : ℕ). n - 1) (length-map (segment_view all chain.dropped) chain.segments)
+new_triples_number all chain = length-new (segments_of all chain) ∙ ap (λ (n : ℕ). n - 1) (length-map chain.segments (segment_view all chain.dropped))

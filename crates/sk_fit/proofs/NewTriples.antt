@@ -26,11 +26,9 @@ use Rattle.sk_fit.specs.State.{IsSmallClock}
 use Rattle.sk_fit.specs.Causes.{Gives, input}
 use Rattle.sk_fit.proofs.Observed.{all_sights, in_range}
 use Rattle.sk_fit.proofs.Kept.{kept_all}
+use Rattle.sk_fit.proofs.Quotients.{through}
 
 -- ---- numbers
-
-through : (a b c : ℤ) → a ≤ℤ b → b ≤ℤ c → a ≤ℤ c
-through a b c p q = omega (arith, ints)
 
 -- factors above 0 are taken off
 cancel : (a b : ℤ) (d : ℕ) → 0 < d → (a *ℤ pos d) ≤ℤ (b *ℤ pos d) → a ≤ℤ b

@@ -1,10 +1,10 @@
 -- Observations with their places: the one in a place and those round it, and which ones are new.
 use Rattle.std.proofs.Common.{◌≡◌, ◌⊎◌, ℕ, zero, suc, ◌+◌, ◌*◌, ◌^◌, ◌<◌, ◌≤◌, Bool, true, false, cond, List, [], ◌∷◌, ◌++◌, length, take, drop, get_or, Some, refl, sym, ap, subst, inl, inr, ◌∙◌, arith, add-one, zero-add}
-use Rattle.std.proofs.lemmas.Int.{ints}
+use Rattle.sk_fit.proofs.Quotients.{sized_from, sized_to}
 use Rattle.std.proofs.lemmas.Bool.Decides.{leb_tells}
 use Rattle.std.proofs.lemmas.List.Sums.{sum_by-cons}
 use Rattle.std.proofs.lemmas.Option.{none-some, same_Some, slice_get_within, slice_get-get_or, get_or_from_slice_get}
-use Rattle.std.specs.Prelude.{ℤ, pos, negsuc, neg_ℤ, ◌≤ℤ◌, ◌||◌, not, nat_lt, nat_abs, slice_get, count_by}
+use Rattle.std.specs.Prelude.{pos, neg_ℤ, ◌≤ℤ◌, ◌||◌, not, nat_lt, slice_get, count_by}
 use Rattle.std.specs.List.{AllByRecursion}
 use Rattle.sk_clock.specs.Row.{RowView, AreRows, IsObservedTime}
 use Rattle.sk_triples.specs.Terms.{Sight, Terms, partition_at, seam, sights, sights_from}
@@ -115,15 +115,7 @@ pub in_range : (total : ℕ) (rows : List RowView) (n : ℕ) (row : RowView) →
 in_range total rows n row are here =
     let at : get_or rows n row ≡ row = get_or_from_slice_get rows n row row here in
     let time : IsObservedTime row.time = subst (λ (x : RowView). IsObservedTime x.time) at (are.times n row (slice_get_within rows n row here)) in
-    (subst (λ (x : RowView). x.tick ≤ total) at (are.within n row (slice_get_within rows n row here)), size_from row.time time, size_to row.time time)
-  where
-    size_from : (z : ℤ) → nat_abs z ≤ 9 * 10 ^ 21 → neg_ℤ (pos (9 * 10 ^ 21)) ≤ℤ z
-    size_from (pos k) h = omega (arith, ints)
-    size_from (negsuc k) h = omega (arith, ints)
-
-    size_to : (z : ℤ) → nat_abs z ≤ 9 * 10 ^ 21 → z ≤ℤ pos (9 * 10 ^ 21)
-    size_to (pos k) h = omega (arith, ints)
-    size_to (negsuc k) h = omega (arith, ints)
+    (subst (λ (x : RowView). x.tick ≤ total) at (are.within n row (slice_get_within rows n row here)), sized_from row.time (9 * 10 ^ 21) time, sized_to row.time (9 * 10 ^ 21) time)
 
 -- ---- new ones
 

@@ -15,7 +15,7 @@ use Rattle.sk_decimal.proofs.Quotients.{floor_below, floor_greatest, ceiling_abo
 use Rattle.sk_triples.proofs.RoundedUp.{twice}
 use Rattle.sk_fit.specs.Gains.{Gains, Keeps, IsLeastGain, IsGreatestGain}
 
-through : (a b c : ℤ) → a ≤ℤ b → b ≤ℤ c → a ≤ℤ c
+pub through : (a b c : ℤ) → a ≤ℤ b → b ≤ℤ c → a ≤ℤ c
 through a b c p q = omega (arith, ints)
 
 apart : (a b : ℤ) → a ≤ℤ b → b <ℤ a → ⊥

@@ -1,5 +1,6 @@
 -- Allowed rates as a band, partitions between ticks, and the sizes that arithmetic needs.
 use Rattle.std.proofs.Common.{◌≡◌, ℕ, ◌+◌, ◌*◌, ◌^◌, ◌<◌, ◌≤◌, Bool, List, [], ◌∷◌, ◌++◌, ◌-◌, sym, ap, subst, inl, inr, ◌∙◌, arith, if◌then◌else◌}
+use Rattle.sk_fit.proofs.Quotients.{through}
 use Rattle.std.proofs.lemmas.Int.{ints, by_lt_z}
 use Rattle.std.proofs.lemmas.Bool.Decides.{leb_tells}
 use Rattle.std.proofs.Math.Nat.{mul-le-mul_left, one-le-mul}
@@ -65,9 +66,6 @@ module _ (t : Terms) (band : BandView) (b : IsBand (IsAllowedStep t) band) where
   )
 
 -- ---- sizes
-
-through : (a b c : ℤ) → a ≤ℤ b → b ≤ℤ c → a ≤ℤ c
-through a b c p q = omega (arith, ints)
 
 pub scaled_to : (z : ℤ) (per_count : ℕ) → z ≤ℤ pos (91 * 10 ^ 20) → per_count ≤ 2 ^ 32 → ((z *ℤ pos (10 ^ 6)) *ℤ pos per_count) ≤ℤ pos (6 * 10 ^ 37)
 scaled_to z per_count h k =

@@ -22,6 +22,7 @@ use Rattle.sk_fit.specs.Given.{terms_of, IsPlaced}
 use Rattle.sk_fit.specs.State.{IsSmallClock, HoldsDue, HasPlaces, IsOpen, IsFitting, fresh, open_of, old_number}
 use Rattle.sk_fit.proofs.Places.{covers_none}
 use Rattle.sk_fit.proofs.Ranges.{partition_rises}
+use Rattle.sk_fit.proofs.Quotients.{through}
 
 -- ---- the chain of the old last triple alone
 
@@ -82,9 +83,6 @@ ahead_of t x e = elim (either (partition_at t t.old.anchor.ticks) (partition_at 
     ]
 
 -- ---- sizes
-
-through : (a b c : ℤ) → a ≤ℤ b → b ≤ℤ c → a ≤ℤ c
-through a b c p q = omega (arith, ints)
 
 -- a ceiling is less than one above the quotient
 ceiling_below : (n : ℤ) (d : ℕ) → 0 < d → (ceiling_quotient n d *ℤ pos d) ≤ℤ (n +ℤ pos d)

@@ -1,5 +1,6 @@
 -- The state of a fit after one more observation.
 use Rattle.std.proofs.Common.{◌≡◌, ◌≢◌, ◌⊎◌, ℕ, ◌+◌, ◌<◌, ◌≤◌, Bool, false, List, [], ◌∷◌, ◌++◌, refl, sym, ap, subst, inl, inr, ◌∙◌, arith, map, if◌then◌else◌}
+use Rattle.std.proofs.lemmas.List.{map-append}
 use Rattle.std.specs.Prelude.{ℤ}
 use Rattle.std.specs.List.{AllByRecursion}
 use Rattle.std.proofs.lemmas.Bool.Decides.{eqb_tells}
@@ -18,14 +19,6 @@ use Rattle.sk_fit.proofs.Places.{Gap, is_in, covers_more, covers_none, covers_sa
 
 abbrev made : Anchor → ℤ → EndView → List Sight → SegmentView
 made anchor rate ended covered = record { anchor = anchor; rate = rate; covered = covered; ended = ended }
-
-map-append : (f : Segment → SegmentView) (xs ys : List Segment) → map f (xs ++ ys) ≡ map f xs ++ map f ys
-map-append f [] ys = refl
-map-append f (x ∷ xs) ys = ap (λ (z : List SegmentView). f x ∷ z) (map-append f xs ys)
-
-places-append : (xs ys : List Sight) → map (λ o. o.place) (xs ++ ys) ≡ map (λ o. o.place) xs ++ map (λ o. o.place) ys
-places-append [] ys = refl
-places-append (x ∷ xs) ys = ap (λ (z : List ℕ). x.place ∷ z) (places-append xs ys)
 
 -- ---- the places
 
@@ -116,7 +109,7 @@ places_begun all n f dropped tick ended anchor rate least greatest h = record {
 pub places_dropped : (all : List Sight) (n : ℕ) (f : FittingView) (dropped : List Sight) (o : Sight) → o.place ≡ n → HasPlaces all n f dropped
     → HasPlaces all (n + 1) (dropped_at f n) (dropped ++ o ∷ [])
 places_dropped all n f dropped o e h = record {
-  places = ap (λ (z : List ℕ). z ++ n ∷ []) h.places ∙ ap (λ (m : ℕ). map (λ o. o.place) dropped ++ m ∷ []) (sym e) ∙ sym (places-append dropped (o ∷ []));
+  places = ap (λ (z : List ℕ). z ++ n ∷ []) h.places ∙ ap (λ (m : ℕ). map (λ o. o.place) dropped ++ m ∷ []) (sym e) ∙ sym (map-append (λ (x : Sight). x.place) dropped (o ∷ []));
   dropped_before = all_append _ f.dropped (n ∷ []) (weaker_places n f.dropped h.dropped_before) (omega arith, tt);
   closed_before = weaker_segments n f.closed h.closed_before;
   ordered = h.ordered;
