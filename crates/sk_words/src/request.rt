@@ -7,9 +7,9 @@ ghost use Rattle.sk_words.specs.Words.{is_taken, command_text};
 ghost use Rattle.sk_words.specs.Request.{all_commands, command_of as command_by, first_missing as missing_by, first_out_of_range as out_of_range_by, is_out_of_range as is_outside, options_fault as fault_by, number_of as number_of_text, number_or, options_of, text_or, used, word_of};
 ghost use Rattle.sk_words.specs.Asked.{rows_in, options_in, AsksFor, MayAsk, NeedsNumber};
 
-use crate::ranges::{is_in_range, number_of};
 use crate::fault::{WordsFault, WordsStop};
 use crate::matched::{MatchStop, matches_in};
+use crate::ranges::{is_in_range, number_of};
 use crate::tables::{Command, OptionName};
 use clap::ArgMatches;
 use std::alloc::Global;

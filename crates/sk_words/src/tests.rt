@@ -120,7 +120,11 @@ fn words_are_judged_in_the_order_of_the_tables(rt: HostRuntime) {
             "OutOfRange",
             "id",
         ),
-        (&["station", "normal", "--kernel=k", "--hold=0"], "Taken", ""),
+        (
+            &["station", "normal", "--kernel=k", "--hold=0"],
+            "Taken",
+            "",
+        ),
     ];
     for (place, (words, cause, name)) in table.iter().enumerate() {
         assert!(rt; refusal(alloc, words) == (*cause, *name), "at {place}");
