@@ -58,6 +58,7 @@ impl Model for Fitting {
     } };
 }
 
+// Arguments that a body does not read, such as the old last triple and the list, are what contracts speak of.
 impl Fitting {
     /// Nothing is built yet: the line of the old last triple goes on to the seam, and observations come from a place on.
     pub fn new(alloc: Global, old: Triple, seam: u64, place: usize) -> Fitting
