@@ -23,3 +23,4 @@ pub mod Answered
 pub mod Placing
 pub mod Kept
 pub mod NewTriples
+pub mod OldNumber

@@ -54,7 +54,7 @@ smaller_from place rows zero p e = tt
 smaller_from place [] (suc n) p e = tt
 smaller_from place (r ∷ rows) (suc n) p e = (omega arith, smaller_from (place + 1) rows n p (omega arith))
 
-from_place : (place : ℕ) (rows : List RowView) (p : ℕ) → p < place → AllByRecursion (λ x. p < x.place) (sights_from place rows)
+pub from_place : (place : ℕ) (rows : List RowView) (p : ℕ) → p < place → AllByRecursion (λ x. p < x.place) (sights_from place rows)
 from_place place [] p h = tt
 from_place place (r ∷ rows) p h = (h, from_place (place + 1) rows p (omega arith))
 

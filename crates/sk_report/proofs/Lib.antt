@@ -3,3 +3,4 @@ pub mod Ranges
 pub mod RowLines
 pub mod Lasts
 pub mod MarkLemmas
+pub mod Published
