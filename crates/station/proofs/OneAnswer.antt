@@ -158,8 +158,11 @@ range_single triples tick = (plain-single _ _, (plain-single _ _, tt))
 pub table_single : (triples : TriplesView) (rows : List RowView) → AreSingle (table_checks triples rows)
 table_single triples rows =
     single_each None 0 (λ before n row. carried (FirstRefuses (range_checks triples row.tick)) (Range row.number) ∷ []) rows
-    (λ before n row. (carried-single (FirstRefuses (range_checks triples row.tick)) (Range row.number)
-    (λ a b. FirstRefuses-one (range_checks triples row.tick) a b (range_single triples row.tick)), tt))
+    (λ before n row. (
+      carried-single (FirstRefuses (range_checks triples row.tick)) (Range row.number)
+          (λ a b. FirstRefuses-one (range_checks triples row.tick) a b (range_single triples row.tick)),
+      tt,
+    ))
 
 -- ---- words
 

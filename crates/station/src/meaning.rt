@@ -12,8 +12,8 @@ use sk_grammar::{Doc, List};
 use sk_leap::{LeapFault, LeapTable};
 use sk_obs::{ObsFault, Observation, read_observations};
 use sk_pool::{Pool, PoolFault};
-use sk_triples::{Triples, TriplesFault};
 use sk_status::{KernelStop, LeapStop, ObsStop, Status};
+use sk_triples::{Triples, TriplesFault};
 use std::alloc::Global;
 
 /// The pool of a leap second kernel's document.

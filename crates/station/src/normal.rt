@@ -11,9 +11,9 @@ ghost use Rattle.station.specs.Outcome.{normal as normal_stage};
 use crate::reading::document;
 use sk_edge::Depot;
 use sk_grammar::Doc;
-use sk_writer::write_doc;
 use sk_status::{FileKind, Status};
 use sk_words::{OptionName, Request};
+use sk_writer::write_doc;
 use std::alloc::Global;
 
 /// The canonical text of a document.

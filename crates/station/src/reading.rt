@@ -67,12 +67,7 @@ pub fn read_file<D: Depot>(
 
 /// Feeds a file to a reader, piece by piece to its end. A fault of the grammar stays with the reader while the rest of
 /// the file is read: a fault of reading behind it ends the run before it.
-fn fed<D: Depot>(
-    alloc: Global,
-    depot: &mut D,
-    kind: FileKind,
-    name: &str,
-) -> Result<Reader, Status>
+fn fed<D: Depot>(alloc: Global, depot: &mut D, kind: FileKind, name: &str) -> Result<Reader, Status>
     ensures same_files { SameFiles (D.holds depot.old) (D.holds depot.new) }
     ensures counts { NoneFalls (D.faults depot.old) (D.faults depot.new) }
     ensures read { let source : Source = record {

@@ -166,13 +166,7 @@ fn residuals_of_a_plain_kernel(rt: HostRuntime) -> Result<(), Fail> {
 const LEAP: &str =
     "\\begindata\nDELTET/DELTA_T_A = 32.184\nDELTET/DELTA_AT = ( 10 @1972-JAN-1 )\n\\begintext\n";
 
-const LEAP_WORDS: [&str; 5] = [
-    "residuals",
-    "--leap=l",
-    "--kernel=k",
-    "--obs=o",
-    "--sc=99",
-];
+const LEAP_WORDS: [&str; 5] = ["residuals", "--leap=l", "--kernel=k", "--obs=o", "--sc=99"];
 
 /// The same files, and a leap second kernel before them.
 fn leap_files(alloc: Global) -> Result<Vec<(String, Vec<u8>)>, AllocError> {
@@ -246,8 +240,11 @@ fn pieces_change_nothing(rt: HostRuntime) -> Result<(), Fail> {
     let alloc = rt.alloc();
     for piece in [1, 2, 3, 7] {
         let words = texts(alloc, &LEAP_WORDS)?;
-        let mut depot =
-            MemoryDepot::new(leap_files(alloc)?, vec![in alloc; piece]?, Vec::new(alloc));
+        let mut depot = MemoryDepot::new(
+            leap_files(alloc)?,
+            vec![in alloc; piece]?,
+            Vec::new(alloc),
+        );
         let mut out = output(alloc, Vec::new(alloc))?;
         let mut notes = output(alloc, Vec::new(alloc))?;
         let status = run(alloc, &words, &mut depot, &mut out, &mut notes);
@@ -298,7 +295,10 @@ fn a_kernel_that_is_cut(rt: HostRuntime) -> Result<(), Fail> {
         };
         assert_eq!(rt; status.code(), code, "at {taken}");
         if 2 <= missing && missing <= 10 {
-            assert_eq!(rt; notes.written(), b"refused;4;Grammar;19;NoAssign\n".as_slice());
+            assert_eq!(rt;
+                notes.written(),
+                b"refused;4;Grammar;19;NoAssign\n".as_slice()
+            );
         }
     }
     Ok(())
@@ -321,10 +321,7 @@ fn long_kernel(alloc: Global, length: usize) -> Result<Vec<u8>, AllocError> {
 fn a_kernel_of_the_limit_and_one_byte_more(rt: HostRuntime) -> Result<(), Fail> {
     let alloc = rt.alloc();
     let words = texts(alloc, &["normal", "--kernel=k"])?;
-    for (length, code, line) in [
-        (16_777_216, 0, ""),
-        (16_777_217, 4, "refused;4;TooLong\n"),
-    ] {
+    for (length, code, line) in [(16_777_216, 0, ""), (16_777_217, 4, "refused;4;TooLong\n")] {
         let kernel = long_kernel(alloc, length)?;
         let mut held = Vec::new(alloc);
         held.push((String::from_str(alloc, "k")?, kernel))?;
