@@ -165,7 +165,7 @@ fn dates_of_kernels(rt: HostRuntime) -> Result<(), Fail> {
         "1972-JANUARY-1",
         "1972-JA-1",
         "1972-01-01",
-        "1972-XXX-1",
+        "1972-FOO-1",
         "72-JAN-1",
         "01972-JAN-1",
         "1972/JAN/1",

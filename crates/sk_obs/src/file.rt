@@ -15,6 +15,7 @@ use crate::observation::Observation;
 use crate::reading::{next_row, row_reader};
 use crate::record::{PAST_RECORDS, read_record};
 use csv::{ByteRecord, Reader};
+use sk_checks::NoMemory;
 use sk_clock::Clock;
 use sk_grammar::List;
 use sk_leap::LeapTable;
@@ -22,6 +23,18 @@ use std::alloc::Global;
 
 /// The number of the first record behind the header.
 const FIRST_RECORD: u32 = 2;
+
+/// As many observations as a file may have.
+const MOST_OBSERVATIONS: usize = 100_000;
+
+/// Room for the observations of a file, whose line feeds mostly tell how many there are.
+fn room_for(alloc: Global, bytes: &[u8]) -> Result<List<Observation>, NoMemory>
+    ensures { IfOk result (λ list. list ≡ []) }
+{
+    let lines = bytes.iter().filter(|byte| **byte == b'\n').count();
+    let list = Vec::with_capacity(alloc, lines.min(MOST_OBSERVATIONS))?;
+    Ok(List::from_vec(list))
+}
 
 /// The observations of a file of CSV records (RFC 4180): the header `id`, `clock`, `time`, `delay`, and then for each
 /// observation, at most 100,000, a record of an id of 1 to 32 bytes, a clock word, a time word, and a delay of 0 to
@@ -44,7 +57,9 @@ pub fn read_observations(
     if let Err(fault) = read_header(&mut reader, &mut row) {
         return Err(fault);
     }
-    let mut list = List::from_vec(Vec::new(alloc));
+    let Ok(mut list) = room_for(alloc, bytes) else {
+        return Err(ObsFault::NoMemory);
+    };
     let mut before: Option<u64> = None;
     for number in FIRST_RECORD..=PAST_RECORDS {
         let Ok(found) = next_row(&mut reader, &mut row) else {

@@ -12,13 +12,13 @@ use Rattle.sk_obs.proofs.file.read_observations.Goals as goal
 pub returns-then-not-found-clause-answer : goal.returns-then-not-found-clause-answer
 returns-then-not-found-clause-answer c =
     all_passed c.args.clock.now c.args.leap.now (records_of c.args.bytes.now) c.loop-number.number c.loop-number.before (rows_left c.loop-number.reader) c.loop-number.list
-    c.loop-number.invariant.passed (rw c.if-not-found.true at c.in-Ok.ensures)
+    c.loop-number.invariant.passed (rw c.if-not-found.true at c.in-Ok-next_row.ensures)
 
 pub returns-in-Err-read_record-clause-answer : goal.returns-in-Err-read_record-clause-answer
 returns-in-Err-read_record-clause-answer c = elim c.in-Err-read_record.ensures.answer [
   | inl memory ↦ inl memory
   | inr refused ↦ inr (own_refused c.args.clock.now c.args.leap.now (records_of c.args.bytes.now) c.loop-number.number c.loop-number.before (rows_left c.loop-number.reader) (rows_left c.next_row.new.reader) (fields_of c.next_row.new.row) c.loop-number.list c.in-Err-read_record.fault
-      c.loop-number.invariant.passed (rw c.if-not-found.false at c.in-Ok.ensures).1 refused)
+      c.loop-number.invariant.passed (rw c.if-not-found.false at c.in-Ok-next_row.ensures).1 refused)
 ]
 
 pub returns-then-not-follows-clause-answer : goal.returns-then-not-follows-clause-answer
@@ -27,7 +27,7 @@ returns-then-not-follows-clause-answer c =
     let same : c.observation.inside.tick ≡ o.tick = search rules in
     let low : ¬ IsAbove c.loop-number.before c.observation.inside.tick = λ high. let yes = c.follows.ensures.1 high in cc in
     inr (order_refused c.args.clock.now c.args.leap.now (records_of c.args.bytes.now) c.loop-number.number c.loop-number.before (rows_left c.loop-number.reader) (rows_left c.next_row.new.reader) (fields_of c.next_row.new.row) c.loop-number.list o.tick
-    c.loop-number.invariant.passed (rw c.if-not-found.false at c.in-Ok.ensures).1 c.in-Ok-read_record.ensures.answer.0 c.in-Ok-read_record.ensures.answer.1.tick
+    c.loop-number.invariant.passed (rw c.if-not-found.false at c.in-Ok-next_row.ensures).1 c.in-Ok-read_record.ensures.answer.0 c.in-Ok-read_record.ensures.answer.1.tick
     (subst (λ (tick : ℕ). ¬ IsAbove c.loop-number.before tick) same low))
 
 pub loop-number-preserved : goal.loop-number-preserved
@@ -36,7 +36,7 @@ loop-number-preserved c =
     let is = c.in-Ok-read_record.ensures.answer in
     let same : c.observation.inside.tick ≡ o.tick = search rules in
     let high : IsAbove c.loop-number.before o.tick = subst (λ (tick : ℕ). IsAbove c.loop-number.before tick) same (c.follows.ensures.0 c.if-not-follows.false) in
-    let next = rw c.if-not-found.false at c.in-Ok.ensures in
+    let next = rw c.if-not-found.false at c.in-Ok-next_row.ensures in
     let within = IsClockWord-within c.args.clock.now (clock_of (fields_of c.next_row.new.row)) o.tick is.1.tick in
     let rows = one_more (total c.args.clock.now) c.loop-number.before c.loop-number.list o c.loop-number.invariant.rows high within c.in-Ok-read_record.ensures.time in
     let passed = passed_one c.args.clock.now c.args.leap.now (records_of c.args.bytes.now) c.loop-number.number c.loop-number.before (rows_left c.loop-number.reader) (rows_left c.next_row.new.reader) (fields_of c.next_row.new.row) c.loop-number.list o

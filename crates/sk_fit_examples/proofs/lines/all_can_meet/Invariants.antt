@@ -1,7 +1,7 @@
 use Rattle.std.proofs.Common.{ℕ, ◌<◌, get_or}
 use Rattle.sk_clock.specs.Row.{RowView}
 use Rattle.sk_fit.specs.Given.{CanMeet}
-use Rattle.sk_fit_rows.proofs.lines.all_can_meet.Given as goal
+use Rattle.sk_fit_examples.proofs.lines.all_can_meet.Given as goal
 
 abbrev pub invariant-loop-obs : goal.invariant-loop-obs
 invariant-loop-obs l = (k : ℕ) (d : RowView) → k < l.obs-index → CanMeet l.clock l.line (get_or l.observations k d)
