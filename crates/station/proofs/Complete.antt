@@ -274,7 +274,6 @@ command_moved : (command : Command) (s u : Source) → Moves s u → (options : 
 command_moved Residuals s u m options r h = residuals_moved s u m options r h
 command_moved Normal s u m options r h =
     then_moved (kernel_document s options) (kernel_document u options) (λ doc. gives (canonical_text doc)) (λ doc. gives (canonical_text doc)) (kernel_moved s u m options) (λ doc q k. k) r h
-
 command_moved Convert s u m options r h =
     then_moved (leap_file s options) (leap_file u options) (λ leap. kernel_file s options >>= after_clock options leap) (λ leap. kernel_file u options >>= after_clock options leap) (leap_moved s u m (options opt.Leap))
     (λ leap. then_moved (kernel_file s options) (kernel_file u options) (after_clock options leap) (after_clock options leap)

@@ -92,8 +92,12 @@ four_fields none first second third fourth text number time utc e p q r s =
 
 pub line_converted : (leap : List LeapPair) (kernel : KernelRead) (tick : ℕ) (time : ℤ) (utc line : List ℕ) → NoneRefuses (range_checks kernel.triples tick) → HasTime kernel tick time
     → IsUtcWord leap time utc → line ≡ line_of (clock_text kernel.clock tick ∷ decimal tick ∷ fixed_text 12 time ∷ utc ∷ []) → converted leap kernel tick (Ok line)
-line_converted leap kernel tick time utc line none timed is_utc is = (timed.triple, (none, (timed.number, timed.covers)), (
-  utc,
-  subst (λ (t : ℤ). IsUtcWord leap t utc) timed.is_time is_utc,
-  ap Ok (is ∙ ap (λ (t : ℤ). line_of (clock_text kernel.clock tick ∷ decimal tick ∷ fixed_text 12 t ∷ utc ∷ [])) timed.is_time),
-))
+line_converted leap kernel tick time utc line none timed is_utc is = (
+  timed.triple,
+  (none, (timed.number, timed.covers)),
+  (
+    utc,
+    subst (λ (t : ℤ). IsUtcWord leap t utc) timed.is_time is_utc,
+    ap Ok (is ∙ ap (λ (t : ℤ). line_of (clock_text kernel.clock tick ∷ decimal tick ∷ fixed_text 12 t ∷ utc ∷ [])) timed.is_time),
+  ),
+)

@@ -71,12 +71,7 @@ fn line_of(
 }
 
 /// The line of a tick, where it has a time.
-fn converted(
-    alloc: Global,
-    kernel: &Kernel,
-    leap: &LeapTable,
-    tick: u64,
-) -> Result<Vec<u8>, Status>
+fn converted(alloc: Global, kernel: &Kernel, leap: &LeapTable, tick: u64) -> Result<Vec<u8>, Status>
     requires { IsDated leap.now }
     ensures { MayAnswer (λ v. v.items) (converted_stage leap.now kernel.now tick) result }
 {
@@ -94,11 +89,7 @@ fn converted(
 }
 
 /// What `convert` writes.
-pub fn convert<D: Depot>(
-    alloc: Global,
-    depot: &mut D,
-    request: &Request,
-) -> Result<Vec<u8>, Status>
+pub fn convert<D: Depot>(alloc: Global, depot: &mut D, request: &Request) -> Result<Vec<u8>, Status>
     requires { NeedsNumber request.now.command }
     ensures same_files { SameFiles (D.holds depot.old) (D.holds depot.new) }
     ensures counts { NoneFalls (D.faults depot.old) (D.faults depot.new) }

@@ -20,7 +20,8 @@ const LATER: &str = "SCLK01_COEFFICIENTS_99 = (\n256 1 1\n)\n\\begintext\n";
 const SYSTEM: &str = "SCLK01_N_FIELDS_99 = 2\nSCLK01_MODULI_99 = (\n4294967296 256\n)\n";
 
 /// A first partition of 1,000,000 ticks, and a second one.
-const SPANS: &str = "SCLK_PARTITION_START_99 = (\n0 0\n)\nSCLK_PARTITION_END_99 = (\n1000000 1099511627775\n)\n";
+const SPANS: &str =
+    "SCLK_PARTITION_START_99 = (\n0 0\n)\nSCLK_PARTITION_END_99 = (\n1000000 1099511627775\n)\n";
 
 /// A time before J2000, and a rate of which no tick takes whole picoseconds.
 const EARLY: &str = "SCLK01_COEFFICIENTS_99 = (\n0 -1 1.000000000001\n)\n\\begintext\n";
@@ -28,7 +29,8 @@ const EARLY: &str = "SCLK01_COEFFICIENTS_99 = (\n0 -1 1.000000000001\n)\n\\begin
 /// A time before any leap seconds, and one past 9·10^9 s.
 const FAR: &str = "SCLK01_COEFFICIENTS_99 = (\n0 -1000000000 1\n256 9500000000 1\n)\n\\begintext\n";
 
-const LEAPS: &str = "\\begindata\nDELTET/DELTA_T_A = 32.184\nDELTET/DELTA_AT = (\n31 @1997-JUL-1\n32 @1999-JAN-1\n33 @2006-JAN-1\n)\n\\begintext\n";
+const LEAPS: &str =
+    "\\begindata\nDELTET/DELTA_T_A = 32.184\nDELTET/DELTA_AT = (\n31 @1997-JUL-1\n32 @1999-JAN-1\n33 @2006-JAN-1\n)\n\\begintext\n";
 
 const HEADER: &str = "id,clock,time,delay\n";
 
@@ -442,8 +444,7 @@ fn clock_words_are_converted(rt: HostRuntime) -> Result<(), Fail> {
     let early: &[&str] = &[KERNEL, CLOCK, SHAPE, SPAN, EARLY];
     let far: &[&str] = &[KERNEL, CLOCK, SHAPE, SPAN, FAR];
     let half = "1/0000001000:128;256128;1000.500000000000;-\n";
-    let dated =
-        "1/0000001000:128;256128;1000.500000000000;2000-01-01T12:15:36.316000000000Z\n";
+    let dated = "1/0000001000:128;256128;1000.500000000000;2000-01-01T12:15:36.316000000000Z\n";
     let next = "2/0000000000:000;1000000;3906.250000000000;-\n";
     let before = "1/0000000000:001;1;-0.996093750000;-\n";
     let old = "1/0000000000:000;0;-1000000000.000000000000;-\n";
@@ -458,8 +459,20 @@ fn clock_words_are_converted(rt: HostRuntime) -> Result<(), Fail> {
         (plain, &["--clock=cuc:2d000003e880"], 0, half, ""),
         (plain, &["--clock=cuc:2e000003e88000"], 5, "", shape),
         (plain, &["--clock=cuc:2d0"], 5, "", "refused;5;Clock;Hex\n"),
-        (plain, &["--clock=cuc:3d"], 5, "", "refused;5;Clock;Cuc;NotCuc\n"),
-        (later, &["--clock=1/0:255"], 5, "", "refused;5;Range;0;BeforeFirst\n"),
+        (
+            plain,
+            &["--clock=cuc:3d"],
+            5,
+            "",
+            "refused;5;Clock;Cuc;NotCuc\n",
+        ),
+        (
+            later,
+            &["--clock=1/0:255"],
+            5,
+            "",
+            "refused;5;Range;0;BeforeFirst\n",
+        ),
         (early, &["--clock=tick:1"], 0, before, ""),
         (far, &["--leap=l", "--clock=0"], 0, old, ""),
         (far, &["--leap=l", "--clock=1"], 0, past, ""),
@@ -471,7 +484,10 @@ fn clock_words_are_converted(rt: HostRuntime) -> Result<(), Fail> {
             words.push(String::from_str(alloc, option)?)?;
         }
         let mut held = files(alloc, parts, HEADER)?;
-        held.push((String::from_str(alloc, "l")?, LEAPS.as_bytes().to_vec(alloc)?))?;
+        held.push((
+            String::from_str(alloc, "l")?,
+            LEAPS.as_bytes().to_vec(alloc)?,
+        ))?;
         let mut depot = MemoryDepot::new(held, vec![in alloc; 1]?, Vec::new(alloc));
         let mut out = output(alloc, Vec::new(alloc))?;
         let mut notes = output(alloc, Vec::new(alloc))?;
