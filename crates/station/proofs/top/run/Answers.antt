@@ -11,9 +11,9 @@ pub returns-clause-complete : goal.returns-clause-complete
 returns-clause-complete g c = λ request ended asked calm quiet known comes.
     let depot = g.D.Depot in
     let sink = g.S.Sink in
-    let source : Source = over (depot.holds c.args.depot.now) (depot.given c.ended.new.depot) (depot.faults c.args.depot.now) (depot.faults c.ended.new.depot) in
+    let source : Source = over (depot.holds c.args.depot.now) (depot.given c.ended-status.new.depot) (depot.faults c.args.depot.now) (depot.faults c.ended-status.new.depot) in
     let silent : Source = record { holds = source.holds; given = source.given; rose = λ name. ⊥ } in
-    let out : Written = record { before = sink.written c.args.out.now; after = sink.written c.ended.new.out; rose = Rose (sink.faults c.args.out.now) (sink.faults c.ended.new.out) } in
-    completed (map string_bytes c.args.words.now) request source silent out c.ended.result ended
+    let out : Written = record { before = sink.written c.args.out.now; after = sink.written c.ended-status.new.out; rose = Rose (sink.faults c.args.out.now) (sink.faults c.ended-status.new.out) } in
+    completed (map string_bytes c.args.words.now) request source silent out c.ended-status.result ended
     (record { holds = λ name. refl; rose = λ name r. absurd r; given = refl })
-    calm quiet asked known c.ended.ensures.ends comes
+    calm quiet asked known c.ended-status.ensures.ends comes
