@@ -8,3 +8,4 @@ pub mod Printed
 pub mod Signed
 pub mod Quotients
 pub mod Reduced
+pub mod FewDigits

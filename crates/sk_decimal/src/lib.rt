@@ -10,6 +10,7 @@ mod parse;
 mod placing;
 mod printing;
 mod reading;
+mod short;
 #[cfg(test)]
 mod tests;
 

@@ -12,9 +12,10 @@ ghost use Rattle.sk_decimal.specs.Significant.{IsNowhere, IsPlaced, IsSignifican
 
 use crate::decimal::Decimal;
 use crate::reading::{Power, Significant, significant_behind};
+use crate::short::short_decimal;
 
 /// The number of this size with a sign.
-fn with_sign(negative: bool, size: u128) -> i128
+pub fn with_sign(negative: bool, size: u128) -> i128
     requires { size < 2 ^ 127 }
     ensures { result ≡ signed negative size }
 {
@@ -119,6 +120,10 @@ pub fn decimal_at(negative: bool, whole: &[u8], fraction: &[u8], power: Power) -
     requires power { power.size ≤ 2 ^ 100 }
     ensures { (size : ℕ) → power.size ≡ min size (2 ^ 100) → result ≡ decimal_of (with_power negative whole.now fraction.now power.negative size) }
 {
+    // Most numbers are short.
+    if whole.len() <= 18 && fraction.len() <= 18 - whole.len() && power.size <= 18 {
+        return Some(short_decimal(negative, whole, fraction, power));
+    }
     let length = fraction.len() as u128;
     match significant_of(whole, fraction) {
         None => None,

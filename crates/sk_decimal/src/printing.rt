@@ -6,13 +6,25 @@ ghost use Rattle.sk_decimal.specs.Number.{fraction_digits, plain_spelling};
 use crate::line::Line;
 use sk_checks::NoMemory;
 
+// The power of ten, by 64 bits where it fits: wide products cost more.
+fn power_of_ten(places: u32) -> u128
+    requires { places ≤ 38 }
+    ensures { result ≡ 10 ^ places }
+{
+    if places < 20 {
+        u128::from(10u64.pow(places))
+    } else {
+        10u128.pow(places)
+    }
+}
+
 // Appends a size, with its decimals.
 fn push_size(line: &mut Line, places: u32, size: u128)
     requires places { places ≤ 38 }
     requires room { length line.old + 88 ≤ 128 }
     ensures { line.new ≡ line.old ++ decimal (size / 10 ^ places) ++ fraction_digits places size }
 {
-    let scale = 10u128.pow(places);
+    let scale = power_of_ten(places);
     line.push_number(size / scale);
     if places > 0 {
         line.push(b".");
