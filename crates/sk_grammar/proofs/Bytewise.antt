@@ -1,7 +1,6 @@
 -- One more byte, one more piece, and the end of a text.
-use Rattle.std.proofs.lemmas.List.{take-append-drop}
 use Rattle.std.proofs.lemmas.Bool.{ne_eqb}
-use Rattle.std.proofs.Common.{suc, take, drop, get_or, drop-cons, ◌≡◌, ℕ, ◌+◌, ◌<◌, List, [], ◌∷◌, ◌++◌, length, map, Bool, false, cond, refl, ap, sym, ◌∙◌, append_assoc, inl, inr, subst, arith, Ok, Err, Result, length-append}
+use Rattle.std.proofs.Common.{◌≡◌, ℕ, ◌+◌, ◌<◌, List, [], ◌∷◌, ◌++◌, length, map, Bool, false, cond, refl, ap, sym, ◌∙◌, append_assoc, inl, inr, subst, arith, Ok, Err, Result, length-append}
 use Rattle.std.specs.List.{slice_split, list_any}
 use Rattle.std.specs.Prelude.{◌==◌}
 use Rattle.sk_grammar.specs.declared.fault.GrammarFault.{GrammarFault}

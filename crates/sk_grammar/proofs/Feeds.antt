@@ -3,11 +3,11 @@ use Rattle.std.proofs.Common.{◌≡◌, ℕ, ◌+◌, ◌<◌, suc, zero, List,
 use Rattle.std.specs.List.{list_any}
 use Rattle.std.specs.Prelude.{slice_index, IfOk}
 use Rattle.std.proofs.lemmas.List.Sums.{sum_by-cons}
-use Rattle.std.proofs.lemmas.Bool.{cases_Bool, eqb-true, false≢true}
+use Rattle.std.proofs.lemmas.Bool.{cases_Bool, eqb-true}
 use Rattle.sk_grammar.specs.declared.fault.GrammarFault.{GrammarFault}
 use Rattle.sk_grammar.specs.declared.taking.Taking.{Taking}
 use Rattle.sk_grammar.specs.Lines.{is_line_feed}
-use Rattle.sk_grammar.specs.Taken.{taken_of, HasOrRefused, TakesPiece, IsSplitAtFeed}
+use Rattle.sk_grammar.specs.Taken.{taken_of, HasOrRefused, TakesPiece, IsSplitAtFeed, HasComeTo}
 use Rattle.sk_grammar.specs.HasTaken.{HasTaken}
 use Rattle.sk_grammar.specs.Valid.{IsReached}
 use Rattle.sk_grammar.proofs.Bytewise.{refused_piece}
@@ -52,17 +52,10 @@ no_feeds (byte ∷ line) none = not_counted byte line (none_first is_line_feed b
 
 -- ---- the lines of a piece
 
--- the front of the piece has been taken, and this is left of it
-pub record HasComeTo (piece rest : List ℕ) (from to : Taking) : Type 0 where
-  pub front : List ℕ
-  pub joined : piece ≡ front ++ rest
-  pub taken : (bytes : List ℕ) → HasTaken (taken_of from) bytes → HasTaken (taken_of to) (bytes ++ front)
-  pub count : to.count + count_by is_line_feed rest ≡ from.count + count_by is_line_feed piece
-
 pub nothing_yet : (piece : List ℕ) (from : Taking) → HasComeTo piece piece from from
 nothing_yet piece from = record { front = []; joined = refl; taken = λ bytes t. subst (HasTaken (taken_of from)) (sym (append-[] bytes)) t; count = refl }
 
-rejoined : (bytes front line : List ℕ) → (bytes ++ front) ++ (line ++ 10 ∷ []) ≡ bytes ++ (front ++ (line ++ 10 ∷ []))
+pub rejoined : (bytes front line : List ℕ) → (bytes ++ front) ++ (line ++ 10 ∷ []) ≡ bytes ++ (front ++ (line ++ 10 ∷ []))
 rejoined bytes front line = append_assoc bytes front (line ++ 10 ∷ [])
 
 pub line_more : (piece rest line behind : List ℕ) (from to next : Taking) → HasComeTo piece rest from to → IsSplitAtFeed rest line behind → TakesPiece (Ok next) to (line ++ 10 ∷ []) → next.count ≡ to.count + 1 → HasComeTo piece behind from next

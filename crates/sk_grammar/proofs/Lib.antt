@@ -28,5 +28,10 @@ pub mod StepSize
 pub mod Quotations
 pub mod OneKind
 pub mod Feeds
+pub mod HeldLines
+pub mod Texts
+pub mod DataLines
+pub mod Rows
+pub mod PlainTexts
 pub mod PlainLines
 pub mod CanonicalLines

@@ -11,7 +11,7 @@ use Rattle.sk_grammar.specs.declared.state.State.{State}
 use Rattle.sk_grammar.specs.declared.state.State.TheVariants.{InHead, InData, InText}
 use Rattle.sk_grammar.specs.declared.value.Value.{Value}
 use Rattle.sk_grammar.specs.declared.value.Value.TheVariants.{Number, Date, Text}
-use Rattle.sk_grammar.specs.Lines.{Mode, TextMode, is_line_feed, is_carriage_return, is_marker, without_trailing, ended_parts, ended_lines}
+use Rattle.sk_grammar.specs.Lines.{Mode, TextMode, is_line_feed, is_carriage_return, is_marker, without_trailing, ended_parts, last_part, ended_lines}
 use Rattle.sk_grammar.specs.Document.{ItemView, BlockView, IsValue, IsItem, IsBlock, IsTextLine, AreOfOneKind, is_text}
 use Rattle.sk_grammar.specs.Spelling.{SpellsValue, SpellsValues, SpellsSingle, SpellsItem, SpellsItems, SpellsTextPart, SpellsBlocks, SpellsLines}
 use Rattle.sk_grammar.specs.Fold.{take_lines, judge_lines, start}
@@ -77,6 +77,15 @@ ended_whole_parts (p ∷ q ∷ parts) h = (whole_line p h.0, ended_whole_parts (
 
 pub ended_whole : (bytes : List ℕ) → AreWhole (ended_lines bytes)
 ended_whole bytes = ended_whole_parts (slice_split is_line_feed bytes) (split_one bytes)
+
+last_one : (parts : List (List ℕ)) → OneLineEach parts → list_any is_line_feed (last_part parts) ≡ false
+last_one [] h = refl
+last_one (p ∷ []) h = h.0
+last_one (p ∷ q ∷ parts) h = last_one (q ∷ parts) h.1
+
+-- the bytes that were kept are of one line
+pub kept_one : (taken : Taken) → IsReached taken → list_any is_line_feed taken.line ≡ false
+kept_one taken reached = ap (list_any is_line_feed) reached.1.line_is ∙ last_one (slice_split is_line_feed reached.0) (split_one reached.0)
 
 -- ---- text lines
 

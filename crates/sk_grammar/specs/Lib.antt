@@ -12,3 +12,6 @@ pub mod Stopping
 pub mod Taken
 pub mod Valid
 pub mod HasRead
+pub mod Texts
+pub mod DataLines
+pub mod Quotes

@@ -1,5 +1,5 @@
 -- What taking bytes answers.
-use Rattle.std.specs.Prelude.{◌≡◌, ℕ, ◌+◌, List, [], ◌∷◌, ◌++◌, Result, Ok, Err, false}
+use Rattle.std.specs.Prelude.{◌≡◌, ℕ, ◌+◌, List, [], ◌∷◌, ◌++◌, Result, Ok, Err, false, count_by}
 use Rattle.std.specs.List.{list_any}
 use Rattle.sk_grammar.specs.declared.fault.GrammarFault.{GrammarFault}
 use Rattle.sk_grammar.specs.declared.fault.GrammarFault.TheVariants.{At, NoMemory}
@@ -38,3 +38,10 @@ pub record IsSplitAtFeed (bytes line behind : List ℕ) : Type 0 where
 -- the document of the bytes that were taken, or their refusal
 abbrev pub EndsText : Result DocView GrammarFault → Taking → Type 0
 EndsText result taking = (bytes : List ℕ) → HasTaken (taken_of taking) bytes → AnswersUnlessMemory result (document_of (lines bytes))
+
+-- the front of the piece has been taken, and this is left of it
+pub record HasComeTo (piece rest : List ℕ) (from to : Taking) : Type 0 where
+  pub front : List ℕ
+  pub joined : piece ≡ front ++ rest
+  pub taken : (bytes : List ℕ) → HasTaken (taken_of from) bytes → HasTaken (taken_of to) (bytes ++ front)
+  pub count : to.count + count_by is_line_feed rest ≡ from.count + count_by is_line_feed piece

@@ -2,6 +2,7 @@
 #![tactic(auto)]
 
 mod bytes;
+mod data_lines;
 mod document;
 mod ending;
 mod fault;
@@ -16,6 +17,7 @@ mod state;
 mod stop;
 mod take;
 mod taking;
+mod text;
 mod tokens;
 mod value;
 mod values;
@@ -30,7 +32,10 @@ pub use laws::{
 pub use list::List;
 pub use read::read_doc;
 pub use reader::Reader;
+pub use text::Lines;
 pub use value::{Op, Value};
 
+#[cfg(test)]
+mod run_tests;
 #[cfg(test)]
 mod tests;

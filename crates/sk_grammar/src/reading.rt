@@ -1,11 +1,12 @@
 //! The tokens of a data line.
 
-ghost use Rattle.std.specs.Prelude.{◌≡◌, ◌<◌, ◌≤◌, [], ◌∷◌, length, false, IfOk, Ok};
+ghost use Rattle.std.specs.Prelude.{◌≡◌, ◌<◌, ◌≤◌, [], ◌∷◌, List, ℕ, length, true, false, IfOk, Ok};
 ghost use Rattle.std.specs.List.{list_any};
 ghost use Rattle.sk_decimal.specs.Reading.{number_of};
 ghost use Rattle.sk_grammar.specs.Lines.{is_line_feed, is_white as is_white_byte};
 ghost use Rattle.sk_grammar.specs.Reading.{read_from, step as stepped, added, single_at, further_at};
-ghost use Rattle.sk_grammar.specs.Stopping.{Gives};
+ghost use Rattle.sk_grammar.specs.Stopping.{Gives, GivesValues, GivesPlaceAt, ReadsOn, ReadsFront};
+ghost use Rattle.sk_grammar.specs.declared.value.Value.{Value as ValueView};
 ghost use Rattle.sk_grammar.specs.declared.place.Place.TheVariants.{Idle as AtIdle, Named as AtNamed, Signed as AtSigned, Opened as AtOpened, Comma as AtComma, Valued as AtValued, Closed as AtClosed};
 
 use crate::bytes::Bytes;
@@ -43,9 +44,9 @@ fn step_idle(alloc: Global, bytes: &[u8]) -> Result<(Place, usize), Stop>
     if name.len() == 0 || name.len() > 32 {
         return Err(Stop::Refused(Reason::BadName));
     }
-    match Vec::from_slice(alloc, name) {
+    match Bytes::copied(alloc, name) {
         Err(_) => Err(Stop::OutOfMemory),
-        Ok(held) => Ok((Place::Named(Bytes::from_vec(held)), name.len())),
+        Ok(held) => Ok((Place::Named(held), name.len())),
     }
 }
 
@@ -59,10 +60,9 @@ fn closed_by(
 ) -> Result<(Place, usize), Stop>
     ensures { Gives result (Ok (AtClosed name op (value ∷ []), size)) }
 {
-    let mut values = Values::new(alloc);
-    match values.push(value) {
+    match Values::of_one(alloc, value) {
         Err(_) => Err(Stop::OutOfMemory),
-        Ok(()) => Ok((Place::Closed(name, op, values), size)),
+        Ok(values) => Ok((Place::Closed(name, op, values), size)),
     }
 }
 
@@ -88,17 +88,29 @@ fn step_signed(alloc: Global, name: Bytes, op: Op, bytes: &[u8]) -> Result<(Plac
     }
 }
 
-/// The values of a vector, and one more of their kind.
-fn with_value(values: Values, value: Value) -> Result<Values, Stop>
-    ensures { Gives result (added number_of values value) }
+/// Puts the value behind those of a vector, which are of its kind.
+fn add(values: &mut Values, value: Value) -> Result<(), Stop>
+    ensures { GivesValues result values.new (added number_of values.old value) }
 {
     if !values.are_as(&value) {
         return Err(Stop::Refused(Reason::MixedKinds));
     }
-    let mut values = values;
     match values.push(value) {
         Err(_) => Err(Stop::OutOfMemory),
-        Ok(()) => Ok(values),
+        Ok(()) => Ok(()),
+    }
+}
+
+/// Puts the value at the front of the bytes behind those of a vector, and answers how many bytes it takes.
+fn add_value(alloc: Global, values: &mut Values, bytes: &[u8]) -> Result<usize, Stop>
+    ensures { (name : List ℕ) (op : Op) → GivesPlaceAt result (AtValued name op values.new) (further_at number_of name op values.old bytes.now) }
+{
+    match value_at(alloc, bytes) {
+        Err(stop) => Err(stop),
+        Ok(value) => match add(values, value.0) {
+            Err(stop) => Err(stop),
+            Ok(()) => Ok(value.1),
+        },
     }
 }
 
@@ -112,12 +124,10 @@ fn further(
 ) -> Result<(Place, usize), Stop>
     ensures { Gives result (further_at number_of name op values bytes.now) }
 {
-    match value_at(alloc, bytes) {
+    let mut values = values;
+    match add_value(alloc, &mut values, bytes) {
         Err(stop) => Err(stop),
-        Ok(value) => match with_value(values, value.0) {
-            Err(stop) => Err(stop),
-            Ok(values) => Ok((Place::Valued(name, op, values), value.1)),
-        },
+        Ok(size) => Ok((Place::Valued(name, op, values), size)),
     }
 }
 
@@ -194,13 +204,67 @@ fn step(alloc: Global, place: Place, bytes: &[u8]) -> Result<(Place, usize), Sto
     token_at(alloc, place, bytes)
 }
 
+/// Whether these bytes of a vector begin neither with a comma nor with a parenthesis.
+fn begins_value(bytes: &[u8]) -> bool
+    ensures { (name : List ℕ) (op : Op) (values : List ValueView) → result ≡ true → stepped number_of (AtValued name op values) bytes.now ≡ further_at number_of name op values bytes.now }
+{
+    match bytes {
+        [b'(', ..] => false,
+        [b',', ..] => false,
+        [b')', ..] => false,
+        _ => true,
+    }
+}
+
+/// Puts the values in front, with white space between them, behind those of a vector, and answers how many bytes these take.
+fn add_values(alloc: Global, values: &mut Values, line: &[u8]) -> Result<usize, Stop>
+    requires { list_any is_line_feed line.now ≡ false }
+    ensures inside { IfOk result (λ size. size ≤ length line.now) }
+    ensures read { (name : List ℕ) (op : Op) → ReadsOn result (AtValued name op values.old) (AtValued name op values.new) line.now }
+{
+    let mut at = 0;
+    while at < line.len() {
+        if is_white(line[at]) {
+            at += 1;
+        } else if begins_value(&line[at..]) {
+            match add_value(alloc, values, &line[at..]) {
+                Err(stop) => return Err(stop),
+                Ok(size) => at += size,
+            }
+        } else {
+            return Ok(at);
+        }
+    }
+    Ok(at)
+}
+
+/// The place behind the values that go on with an open vector, and how many bytes these take; no value moves the place.
+fn read_values(alloc: Global, place: Place, line: &[u8]) -> Result<(Place, usize), Stop>
+    requires { list_any is_line_feed line.now ≡ false }
+    ensures inside { IfOk result (λ front. front.1 ≤ length line.now) }
+    ensures read { ReadsFront result place line.now }
+{
+    match place {
+        Place::Valued(name, op, values) => {
+            let mut values = values;
+            match add_values(alloc, &mut values, line) {
+                Err(stop) => Err(stop),
+                Ok(size) => Ok((Place::Valued(name, op, values), size)),
+            }
+        }
+        place => Ok((place, 0)),
+    }
+}
+
 /// The place behind the tokens of a line.
 pub fn read_line(alloc: Global, place: Place, line: &[u8]) -> Result<Place, Stop>
     requires { list_any is_line_feed line.now ≡ false }
     ensures { Gives result (read_from number_of place 0 line.now) }
 {
-    let mut place = place;
-    let mut at = 0;
+    let (mut place, mut at) = match read_values(alloc, place, line) {
+        Err(stop) => return Err(stop),
+        Ok(front) => front,
+    };
     while at < line.len() {
         if is_white(line[at]) {
             at += 1;

@@ -4,25 +4,26 @@ ghost use Rattle.std.specs.Prelude.{◌≡◌, ◌++◌, [], ◌∷◌, All, Ok,
 ghost use Rattle.sk_grammar.specs.declared.state.State.TheVariants.{InHead as AtHead, InData as AtData, InText as AtText};
 ghost use Rattle.sk_grammar.specs.declared.place.Place.TheVariants.{Idle as AtIdle};
 ghost use Rattle.sk_grammar.specs.Document.{IsItem, IsTextLine};
-ghost use Rattle.sk_grammar.specs.Lines.{begins_data as begins_data_line, begins_text as begins_text_line};
-ghost use Rattle.sk_grammar.specs.Fold.{take_line as taken_line, unless_open as open_answer, end_data};
+ghost use Rattle.std.specs.List.{list_any};
+ghost use Rattle.sk_grammar.specs.Lines.{is_line_feed, begins_data as begins_data_line, begins_text as begins_text_line};
+ghost use Rattle.sk_grammar.specs.Fold.{take_line as taken_line, unless_open as open_answer};
 ghost use Rattle.sk_grammar.specs.Stopping.{Gives};
-ghost use Rattle.sk_grammar.specs.Valid.{IsReachedState, IsClosedItem};
+ghost use Rattle.sk_grammar.specs.Valid.{IsReachedState};
 
-use crate::bytes::Bytes;
+use crate::data_lines::take_tokens;
 use crate::document::{Block, Item};
 use crate::fault::Reason;
-use crate::lines::{begins_data, begins_text, has_bad_byte, with_line, without_white};
+use crate::lines::{begins_data, begins_text};
 use crate::list::List;
 use crate::place::Place;
-use crate::reading::read_line;
 use crate::state::State;
 use crate::stop::Stop;
-use crate::value::{Op, Value};
+use crate::text::Lines;
 use std::alloc::Global;
 
 /// A line in text mode, before the first block.
-fn take_head(alloc: Global, texts: List<Bytes>, line: &[u8]) -> Result<State, Stop>
+fn take_head(alloc: Global, texts: Lines, line: &[u8]) -> Result<State, Stop>
+    requires one_line { list_any is_line_feed line.now ≡ false }
     ensures { Gives result (taken_line (AtHead texts) line.now) }
 {
     if begins_data(line) {
@@ -39,7 +40,7 @@ fn take_head(alloc: Global, texts: List<Bytes>, line: &[u8]) -> Result<State, St
     if line.len() > 4096 {
         return Err(Stop::Refused(Reason::TextLineTooLong));
     }
-    match with_line(alloc, texts, line) {
+    match texts.with_line(line) {
         Err(_) => Err(Stop::OutOfMemory),
         Ok(texts) => Ok(State::InHead(texts)),
     }
@@ -48,10 +49,10 @@ fn take_head(alloc: Global, texts: List<Bytes>, line: &[u8]) -> Result<State, St
 /// The next block begins, behind a whole one.
 fn next_block(
     alloc: Global,
-    head: List<Bytes>,
+    head: Lines,
     blocks: List<Block>,
     items: List<Item>,
-    texts: List<Bytes>,
+    texts: Lines,
 ) -> Result<State, Stop>
     requires items { All IsItem items }
     requires texts { All IsTextLine texts }
@@ -67,14 +68,15 @@ fn next_block(
 /// A line in text mode, in the last block.
 fn take_text(
     alloc: Global,
-    head: List<Bytes>,
+    head: Lines,
     blocks: List<Block>,
     items: List<Item>,
-    texts: List<Bytes>,
+    texts: Lines,
     line: &[u8],
 ) -> Result<State, Stop>
     requires items { All IsItem items }
     requires texts { All IsTextLine texts }
+    requires one_line { list_any is_line_feed line.now ≡ false }
     ensures { Gives result (taken_line (AtText head blocks items texts) line.now) }
 {
     if begins_data(line) {
@@ -86,7 +88,7 @@ fn take_text(
     if line.len() > 4096 {
         return Err(Stop::Refused(Reason::TextLineTooLong));
     }
-    match with_line(alloc, texts, line) {
+    match texts.with_line(line) {
         Err(_) => Err(Stop::OutOfMemory),
         Ok(texts) => Ok(State::InText(head, blocks, items, texts)),
     }
@@ -102,79 +104,10 @@ fn at_marker(place: Place, next: State) -> Result<State, Stop>
     }
 }
 
-/// The items, and one more.
-fn with_item(
-    head: List<Bytes>,
-    blocks: List<Block>,
-    items: List<Item>,
-    name: Bytes,
-    op: Op,
-    values: List<Value>,
-) -> Result<State, Stop>
-    requires { IsItem (record { name = name; op = op; values = values }) }
-    ensures { Gives result (Ok (AtData head blocks (items ++ record { name = name; op = op; values = values } ∷ []) AtIdle)) }
-{
-    let mut items = items;
-    match items.push(Item { name, op, values }) {
-        Err(_) => Err(Stop::OutOfMemory),
-        Ok(()) => Ok(State::InData(head, blocks, items, Place::Idle)),
-    }
-}
-
-/// The end of a data line: an item that is closed joins the others.
-fn end_line(
-    head: List<Bytes>,
-    blocks: List<Block>,
-    items: List<Item>,
-    place: Place,
-) -> Result<State, Stop>
-    requires { IsClosedItem place }
-    ensures { Gives result (end_data head blocks items place) }
-{
-    match place {
-        Place::Named(_) => Err(Stop::Refused(Reason::NoAssign)),
-        Place::Closed(name, op, values) => with_item(
-            head,
-            blocks,
-            items,
-            name,
-            op,
-            values.into_list(),
-        ),
-        open => Ok(State::InData(head, blocks, items, open)),
-    }
-}
-
-/// A data line that is no marker.
-fn take_tokens(
-    alloc: Global,
-    head: List<Bytes>,
-    blocks: List<Block>,
-    items: List<Item>,
-    place: Place,
-    line: &[u8],
-) -> Result<State, Stop>
-    requires reached { IsReachedState (AtData head blocks items place) }
-    requires no_data { begins_data_line line.now ≡ false }
-    requires no_text { begins_text_line line.now ≡ false }
-    ensures { Gives result (taken_line (AtData head blocks items place) line.now) }
-{
-    if without_white(line).len() > 132 {
-        return Err(Stop::Refused(Reason::DataLineTooLong));
-    }
-    if has_bad_byte(line) {
-        return Err(Stop::Refused(Reason::BadByte));
-    }
-    match read_line(alloc, place, line) {
-        Err(stop) => Err(stop),
-        Ok(place) => end_line(head, blocks, items, place),
-    }
-}
-
 /// A line in data mode.
 fn take_data(
     alloc: Global,
-    head: List<Bytes>,
+    head: Lines,
     blocks: List<Block>,
     items: List<Item>,
     place: Place,
@@ -187,17 +120,19 @@ fn take_data(
         return at_marker(place, State::InData(head, blocks, items, Place::Idle));
     }
     if begins_text(line) {
-        return at_marker(
-            place,
-            State::InText(head, blocks, items, List::from_vec(Vec::new(alloc))),
-        );
+        return at_marker(place, State::InText(head, blocks, items, Lines::new(alloc)));
     }
-    take_tokens(alloc, head, blocks, items, place, line)
+    let mut items = items;
+    match take_tokens(alloc, &mut items, place, line) {
+        Err(stop) => Err(stop),
+        Ok(place) => Ok(State::InData(head, blocks, items, place)),
+    }
 }
 
 /// The line, behind what has been read.
 pub fn take_line(alloc: Global, state: State, line: &[u8]) -> Result<State, Stop>
     requires reached { IsReachedState state }
+    requires one_line { list_any is_line_feed line.now ≡ false }
     ensures { Gives result (taken_line state line.now) }
 {
     match state {

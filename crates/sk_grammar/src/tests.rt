@@ -22,7 +22,7 @@ fn fault(alloc: Global, bytes: &[u8]) -> Option<GrammarFault>
 }
 
 /// What a reader answers that is fed with pieces of this size.
-fn read_in_pieces(alloc: Global, bytes: &[u8], size: usize) -> Result<Doc, GrammarFault>
+pub fn read_in_pieces(alloc: Global, bytes: &[u8], size: usize) -> Result<Doc, GrammarFault>
     requires some { 0 < size }
     requires short { length bytes.now ≤ 65536 }
 {
@@ -37,7 +37,7 @@ fn read_in_pieces(alloc: Global, bytes: &[u8], size: usize) -> Result<Doc, Gramm
     reader.finish()
 }
 
-fn at(line: u32, reason: Reason) -> Option<GrammarFault> {
+pub fn at(line: u32, reason: Reason) -> Option<GrammarFault> {
     Some(GrammarFault::At { line, reason })
 }
 
@@ -286,6 +286,64 @@ fn pieces_are_read_as_the_whole(rt: HostRuntime) -> Result<(), Fail> {
     Ok(())
 }
 
+/// Text lines on both sides of the few bytes that are looked at one by one. A line of 4,096 bytes follows them.
+const SHORT_LINES: [&str; 8] = [
+    "",
+    "x",
+    "1234567",
+    "12345678",
+    "123456789",
+    "1234567890123456",
+    " indented",
+    "\\other",
+];
+
+/// These lines as they are kept.
+const SHORT_LINES_KEPT: &str =
+    "\nx\n1234567\n12345678\n123456789\n1234567890123456\n indented\n\\other\n";
+
+/// The short lines and one of 4,096 bytes, each with this end, behind a front.
+fn text_lines(alloc: Global, front: &str, end: &str) -> Result<Vec<u8>, AllocError> {
+    let mut text = front.as_bytes().to_vec(alloc)?;
+    for line in &SHORT_LINES {
+        text.extend_from_slice(line.as_bytes())?;
+        text.extend_from_slice(end.as_bytes())?;
+    }
+    text.extend_from_slice(vec![in alloc; b'x'; 4096]?.as_slice())?;
+    text.extend_from_slice(end.as_bytes())?;
+    Ok(text)
+}
+
+#[test]
+fn text_lines_are_kept_in_whatever_pieces(rt: HostRuntime) -> Result<(), Fail> {
+    let alloc = rt.alloc();
+    let mut kept = SHORT_LINES_KEPT.as_bytes().to_vec(alloc)?;
+    kept.extend_from_slice(vec![in alloc; b'x'; 4096]?.as_slice())?;
+    kept.push(b'\n')?;
+    for end in ["\n", "\r\n", "\r\r\n"] {
+        let head = text_lines(alloc, "", end)?;
+        let block = text_lines(alloc, "\\begindata\n\\begintext\n", end)?;
+        if head.len() <= 65_536 && block.len() <= 65_536 {
+            for size in [1, 2, 3, 7, 4096] {
+                let doc = read_in_pieces(alloc, head.as_slice(), size)?;
+                assert_eq!(rt;
+                    doc.head.as_text(),
+                    kept.as_slice(),
+                    "{end:?} in pieces of {size}"
+                );
+                let doc = read_in_pieces(alloc, block.as_slice(), size)?;
+                let block = doc.blocks.as_slice().first().ok_or("no block")?;
+                assert_eq!(rt;
+                    block.text.as_text(),
+                    kept.as_slice(),
+                    "{end:?} in pieces of {size}"
+                );
+            }
+        }
+    }
+    Ok(())
+}
+
 #[test]
 fn a_document_is_shown(rt: HostRuntime) -> Result<(), Fail> {
     let alloc = rt.alloc();
@@ -295,7 +353,7 @@ fn a_document_is_shown(rt: HostRuntime) -> Result<(), Fail> {
     )?;
     assert_eq!(rt;
         text.as_str(),
-        "Ok(Doc { head: List { items: [Bytes { bytes: [72] }] }, blocks: List { items: [Block { items: List { items: [Item { name: Bytes { bytes: [65] }, op: Append, values: List { items: [Text(Bytes { bytes: [105, 116, 39, 115] })] } }] }, text: List { items: [Bytes { bytes: [84] }] } }] } })"
+        "Ok(Doc { head: Lines { text: [72, 10] }, blocks: List { items: [Block { items: List { items: [Item { name: Bytes { bytes: [65] }, op: Append, values: List { items: [Text(Bytes { bytes: [105, 116, 39, 115] })] } }] }, text: Lines { text: [84, 10] } }] } })"
     );
     let mut reader = Reader::new(alloc);
     assert_eq!(rt;

@@ -1,9 +1,10 @@
 //! The tokens of a data line that may have many bytes.
 
-ghost use Rattle.std.specs.Prelude.{◌≡◌, ◌+◌, ◌^◌, ◌<◌, ◌≤◌, length, false, IfOk};
+ghost use Rattle.std.specs.Prelude.{◌≡◌, ◌+◌, ◌^◌, ◌<◌, ◌≤◌, [], length, true, false, Some, IfOk};
 ghost use Rattle.std.specs.List.{prefix_len};
 ghost use Rattle.sk_decimal.specs.Reading.{number_of};
 ghost use Rattle.sk_grammar.specs.Document.{is_name_byte, is_run_byte};
+ghost use Rattle.sk_grammar.specs.Quotes.{is_plain as is_plain_byte};
 ghost use Rattle.sk_grammar.specs.Refusal.{name_at, run_at};
 ghost use Rattle.sk_grammar.specs.Reading.{text_from, ended_text, date_of, text_value as text_of, number_value as number_in, run_value as value_of_run, value_at as value_here};
 ghost use Rattle.sk_grammar.specs.Stopping.{Gives};
@@ -111,12 +112,52 @@ fn text(alloc: Global, bytes: &[u8]) -> Result<(Bytes, usize), Stop>
     }
 }
 
+/// How many bytes stand in front of a quote or a line feed.
+fn plain_count(bytes: &[u8]) -> usize
+    ensures { result ≡ prefix_len is_plain_byte bytes.now }
+{
+    for (i, byte) in bytes.iter().enumerate() {
+        if *byte == b'\'' || *byte == b'\n' {
+            return i;
+        }
+    }
+    bytes.len()
+}
+
+/// Whether a quote stands in front that ends a text.
+fn ends_text(bytes: &[u8]) -> bool
+    ensures { result ≡ true → text_from false bytes.now ≡ Some [] }
+{
+    match bytes {
+        [b'\'', b'\'', ..] => false,
+        [b'\'', ..] => true,
+        _ => false,
+    }
+}
+
+/// The text as `text` reads it; one with no quote in it is copied at once.
+fn text_at(alloc: Global, bytes: &[u8]) -> Result<(Bytes, usize), Stop>
+    requires { length bytes.now + 1 < 2 ^ 64 }
+    ensures answer { Gives result (ended_text (text_from false bytes.now)) }
+    ensures inside { IfOk result (λ text. text.1 ≤ length bytes.now) }
+{
+    let count = plain_count(bytes);
+    let (plain, behind) = bytes.split_at(count);
+    if !ends_text(behind) {
+        return text(alloc, bytes);
+    }
+    match Bytes::copied(alloc, plain) {
+        Err(_) => Err(Stop::OutOfMemory),
+        Ok(copy) => Ok((copy, count + 1)),
+    }
+}
+
 /// The text value behind its first quote.
 fn quoted_value(alloc: Global, bytes: &[u8]) -> Result<(Value, usize), Stop>
     requires { length bytes.now + 1 < 2 ^ 64 }
     ensures { Gives result (text_of number_of (text_from false bytes.now)) }
 {
-    match text(alloc, bytes) {
+    match text_at(alloc, bytes) {
         Err(stop) => Err(stop),
         Ok((text, size)) => {
             if text.as_slice().len() > 80 {
@@ -145,9 +186,9 @@ fn date_value(alloc: Global, run: &[u8]) -> Result<(Value, usize), Stop>
     if run.len() == 1 || run.len() > 80 {
         return Err(Stop::Refused(Reason::BadDate));
     }
-    match Vec::from_slice(alloc, run) {
+    match Bytes::copied(alloc, run) {
         Err(_) => Err(Stop::OutOfMemory),
-        Ok(date) => Ok((Value::Date(Bytes::from_vec(date)), run.len())),
+        Ok(date) => Ok((Value::Date(date), run.len())),
     }
 }
 

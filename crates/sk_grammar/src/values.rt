@@ -1,11 +1,11 @@
-ghost use Rattle.std.specs.Prelude.{◌≡◌, [], ◌∷◌, ◌++◌, true, OnOk};
+ghost use Rattle.std.specs.Prelude.{◌≡◌, [], ◌∷◌, ◌++◌, true, OnOk, IfOk};
 ghost use Rattle.std.specs.List.{list_all};
 ghost use Rattle.std.specs.Bool.{beq};
 ghost use Rattle.sk_grammar.specs.Document.{is_text as is_text_value};
 
 use crate::list::List;
 use crate::value::Value;
-use std::alloc::{AllocFailed, Global};
+use std::alloc::{AllocError, AllocFailed, Global};
 use std::marker::Model;
 
 /// The values of one item, which are all texts or hold no text.
@@ -42,6 +42,21 @@ impl Values {
     {
         Values {
             items: List::from_vec(Vec::new(alloc)),
+        }
+    }
+
+    /// One value, with room for it alone: most items have no more.
+    pub fn of_one(alloc: Global, value: Value) -> Result<Values, AllocError>
+        ensures { IfOk result (λ values. values ≡ value ∷ []) }
+    {
+        let Ok(mut items) = Vec::with_capacity(alloc, 1) else {
+            return Err(AllocError);
+        };
+        match items.push(value) {
+            Err(_) => Err(AllocError),
+            Ok(()) => Ok(Values {
+                items: List::from_vec(items),
+            }),
         }
     }
 

@@ -27,12 +27,15 @@ const FIRST_RECORD: u32 = 2;
 /// As many observations as a file may have.
 const MOST_OBSERVATIONS: usize = 100_000;
 
-/// Room for the observations of a file, whose line feeds mostly tell how many there are.
+/// The bytes of the shortest record with its line feed, as `a,0,tdt:0,0`.
+const SHORTEST_RECORD: usize = 12;
+
+/// Room for as many observations as a file of so many bytes may have, of which the untouched part costs nothing.
 fn room_for(alloc: Global, bytes: &[u8]) -> Result<List<Observation>, NoMemory>
     ensures { IfOk result (λ list. list ≡ []) }
 {
-    let lines = bytes.iter().filter(|byte| **byte == b'\n').count();
-    let list = Vec::with_capacity(alloc, lines.min(MOST_OBSERVATIONS))?;
+    let most = bytes.len() / SHORTEST_RECORD;
+    let list = Vec::with_capacity(alloc, most.min(MOST_OBSERVATIONS))?;
     Ok(List::from_vec(list))
 }
 

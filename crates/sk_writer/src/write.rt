@@ -4,15 +4,14 @@ ghost use Rattle.sk_grammar.specs.Canonical.{item_lines, block_lines, ended_by_l
 
 use crate::items::{write_item, write_line};
 use sk_checks::NoMemory;
-use sk_grammar::{Block, Bytes, Doc, Item};
+use sk_grammar::{Block, Doc, Item, Lines};
 use std::alloc::Global;
 
-fn write_lines(out: &mut Vec<u8>, lines: &[Bytes]) -> Result<(), NoMemory>
+// Appends the lines, each with a line feed behind it.
+fn write_lines(out: &mut Vec<u8>, lines: &Lines) -> Result<(), NoMemory>
     ensures { OnOk result (out.new.items ≡ out.old.items ++ ended_by_line_feeds lines.now) }
 {
-    for line in lines {
-        write_line(out, line.as_slice())?;
-    }
+    out.extend_from_slice(lines.as_text())?;
     Ok(())
 }
 
@@ -31,7 +30,7 @@ fn write_block(out: &mut Vec<u8>, block: &Block) -> Result<(), NoMemory>
     write_line(out, b"\\begindata")?;
     write_items(out, block.items.as_slice())?;
     write_line(out, b"\\begintext")?;
-    write_lines(out, block.text.as_slice())?;
+    write_lines(out, &block.text)?;
     Ok(())
 }
 
@@ -43,7 +42,7 @@ pub fn write_doc(alloc: Global, doc: &Doc) -> Result<Vec<u8>, NoMemory>
     ensures { IfOk result (λ text. text.items ≡ canonical_text doc.now) }
 {
     let mut out = Vec::new(alloc);
-    write_lines(&mut out, doc.head.as_slice())?;
+    write_lines(&mut out, &doc.head)?;
     for block in doc.blocks.as_slice() {
         write_block(&mut out, block)?;
     }

@@ -3,7 +3,7 @@ use Rattle.std.specs.Prelude.{◌==◌}
 use Rattle.std.proofs.lemmas.Bool.{eqb-true, eqb-false}
 use Rattle.sk_grammar.specs.Taken.{taken_of}
 use Rattle.sk_grammar.proofs.Bytewise.{none_left, end_empty, end_taken, end_refused, next_reached}
-use Rattle.sk_grammar.proofs.Validity.{taken_reached, state_valid}
+use Rattle.sk_grammar.proofs.Validity.{taken_reached, state_valid, kept_one}
 use Rattle.sk_grammar.proofs.taking.end_text.Goals as goal
 
 pub end_state-requires : goal.end_state-requires
@@ -17,6 +17,9 @@ returns-then-is_empty c = λ bytes t.
 
 pub take_kept-requires-clause-reached : goal.take_kept-requires-clause-reached
 take_kept-requires-clause-reached c = taken_reached (taken_of c.args.taking) c.requires.reached
+
+pub take_kept-requires-clause-one_line : goal.take_kept-requires-clause-one_line
+take_kept-requires-clause-one_line c = kept_one (taken_of c.args.taking) c.requires.reached
 
 pub end_state-requires-in-Ok : goal.end_state-requires-in-Ok
 end_state-requires-in-Ok c = state_valid c.in-Ok.last.state (taken_reached (taken_of c.in-Ok.last) (next_reached c.args.taking c.in-Ok.last c.in-Ok.ensures c.requires.reached))

@@ -1,5 +1,5 @@
 use Rattle.std.proofs.Common.{length}
-use Rattle.sk_grammar.proofs.Feeds.{HasComeTo}
+use Rattle.sk_grammar.specs.Taken.{HasComeTo}
 use Rattle.sk_grammar.proofs.taking.take_piece.Given as goal
 
 abbrev pub invariant-loop-line : goal.invariant-loop-line

@@ -8,7 +8,7 @@ use Rattle.sk_writer.proofs.write.write_block.Goals as goal
 pub returns : goal.returns
 returns c =
     let items_are = c.as_slice.ensures ∙ ap (λ (b : BlockView). b.items) c.block.view_is in
-    let text_is = c.as_slice-2.ensures ∙ ap (λ (b : BlockView). b.text) c.block.view_is in
+    let text_is = ap (λ (b : BlockView). b.text) c.block.view_is in
     four_parts c.args.out.now.items _ _ _ c.write_lines.new.out.items _ _ _ _ c.in_ok-write_line.ensures
     (c.in_ok-write_items.ensures ∙ ap (λ (items : List ItemView). c.write_line.new.out.items ++ ended_by_line_feeds (flat_map item_lines items)) items_are)
     c.in_ok-write_line-2.ensures
