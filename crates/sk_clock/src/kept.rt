@@ -1,6 +1,6 @@
 //! A clock from its numbers.
 
-ghost use Rattle.std.specs.Prelude.{◌≡◌, ◌+◌, ◌-◌, ◌^◌, ◌<◌, ◌≤◌, length, min, All, sum_by, IfOk};
+ghost use Rattle.std.specs.Prelude.{◌≡◌, ◌+◌, ◌-◌, ◌^◌, ◌<◌, ◌≤◌, length, decimal, min, All, sum_by, IfOk};
 ghost use Rattle.std.specs.Int.{IsInRange};
 ghost use Rattle.sk_clock.specs.Clock.{product, ticks_in, AreModuli, ArePartitions, IsClock};
 ghost use Rattle.sk_clock.specs.Kept.{lengths_before, moduli_of, offsets_of, AreUnits};
@@ -8,6 +8,7 @@ ghost use Rattle.sk_clock.specs.Kept.{lengths_before, moduli_of, offsets_of, Are
 use crate::clock::Clock;
 use crate::field::Field;
 use crate::partition::Partition;
+use itoa::Buffer;
 use sk_checks::NoMemory;
 use std::alloc::Global;
 
@@ -26,6 +27,13 @@ pub fn capped_product(moduli: &[u64]) -> u64
     value
 }
 
+/// How many digits a number has.
+fn digit_count(number: u64) -> usize
+    ensures { result ≡ length (decimal number) }
+{
+    Buffer::new().format(number).len()
+}
+
 /// The fields, each with the product of the later moduli as its unit.
 fn fields_of(alloc: Global, moduli: &[u64], offsets: &[u64]) -> Result<Vec<Field>, NoMemory>
     requires moduli { AreModuli moduli.now }
@@ -40,6 +48,7 @@ fn fields_of(alloc: Global, moduli: &[u64], offsets: &[u64]) -> Result<Vec<Field
             modulus: *modulus,
             offset: offsets[i],
             unit: capped_product(later),
+            width: digit_count(*modulus + offsets[i] - 1),
         })?;
     }
     Ok(fields)

@@ -16,13 +16,6 @@ use itoa::Buffer;
 use sk_checks::NoMemory;
 use std::alloc::Global;
 
-/// How many digits a number has.
-fn digit_count(number: u64) -> usize
-    ensures { result ≡ length (decimal number) }
-{
-    Buffer::new().format(number).len()
-}
-
 /// Appends a number, with zeros in front of it up to so many digits.
 fn push_padded(text: &mut String, width: usize, number: u64) -> Result<(), NoMemory>
     ensures { OnOk result (string_bytes text.new ≡ string_bytes text.old ++ padded_decimal width number) }
@@ -41,8 +34,7 @@ fn push_field(text: &mut String, field: &Field, count: u64) -> Result<(), NoMemo
     requires { count < 2 ^ 60 }
     ensures { OnOk result (string_bytes text.new ≡ string_bytes text.old ++ field_text field.now count) }
 {
-    let width = digit_count(field.modulus + field.offset - 1);
-    push_padded(text, width, field.offset + count / field.unit)?;
+    push_padded(text, field.width, field.offset + count / field.unit)?;
     Ok(())
 }
 

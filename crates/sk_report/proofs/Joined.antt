@@ -1,5 +1,5 @@
 -- The fields of a line, appended one after the other.
-use Rattle.std.proofs.Common.{◌≡◌, ℕ, List, [], ◌∷◌, ◌++◌, sym, ap, ◌∙◌, append_assoc}
+use Rattle.std.proofs.Common.{◌≡◌, ℕ, List, [], ◌∷◌, ◌++◌, ap, ◌∙◌, append_assoc}
 
 pub three_parts : (none first second third id text observed time difference number kind ended : List ℕ) → none ≡ []
     → first ≡ none ++ id ++ 59 ∷ (text ++ 59 ∷ (observed ++ 59 ∷ []))

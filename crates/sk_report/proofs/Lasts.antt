@@ -1,11 +1,11 @@
 -- The last place that a segment covers.
-use Rattle.std.proofs.Common.{◌≡◌, ◌⊎◌, ℕ, zero, suc, ◌+◌, ◌<◌, ◌≤◌, Bool, true, false, cond, ◌&&◌, not, eqb, ltb, leb, List, [], ◌∷◌, ◌++◌, length, get_or, Option, None, Some, refl, sym, ap, subst, inl, inr, arith, ◌∙◌}
+use Rattle.std.proofs.Common.{◌≡◌, ℕ, ◌+◌, ◌<◌, ◌≤◌, Bool, true, false, cond, ◌&&◌, not, eqb, ltb, leb, List, [], ◌∷◌, length, Option, None, Some, refl, ap, inl, inr, arith, ◌∙◌}
 use Rattle.std.proofs.lemmas.Bool.{cases_lt, le-leb, lt-ltb, leb-true, ltb-true}
 use Rattle.std.specs.Prelude.{filter}
 use Rattle.std.specs.List.{list_any}
 use Rattle.std.specs.Option.{option_map, option_map_or}
 use Rattle.sk_clock.specs.Row.{RowView}
-use Rattle.sk_triples.specs.Terms.{Sight, sights_from, sights}
+use Rattle.sk_triples.specs.Terms.{Sight, sights_from}
 use Rattle.sk_triples.specs.Chain.{last_of}
 use Rattle.sk_fit.specs.declared.chain.Segment.{Segment}
 use Rattle.sk_report.specs.Ends.{leaves}

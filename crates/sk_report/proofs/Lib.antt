@@ -4,3 +4,4 @@ pub mod RowLines
 pub mod Lasts
 pub mod MarkLemmas
 pub mod Published
+pub mod TextLines

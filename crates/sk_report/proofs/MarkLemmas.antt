@@ -1,5 +1,5 @@
 -- Marks, one after the other.
-use Rattle.std.proofs.Common.{◌≡◌, ◌≢◌, ◌⊎◌, ℕ, zero, suc, ◌+◌, ◌<◌, ◌≤◌, Bool, true, false, cond, ◌||◌, eqb, List, [], ◌∷◌, ◌++◌, length, take, get_or, set, map, Option, None, Some, IfSome, MatchOption, refl, sym, ap, subst, inl, inr, arith, ◌∙◌}
+use Rattle.std.proofs.Common.{◌≡◌, ◌≢◌, ℕ, zero, suc, ◌+◌, ◌<◌, ◌≤◌, Bool, true, false, cond, ◌||◌, eqb, List, [], ◌∷◌, ◌++◌, length, take, get_or, set, map, Option, None, Some, IfSome, MatchOption, refl, sym, ap, subst, arith, ◌∙◌}
 use Rattle.std.proofs.lemmas.Bool.{eqb-true, eqb-false}
 use Rattle.std.proofs.lemmas.List.{take_more, get_or-set_same, get_or-set_other, length-set}
 use Rattle.std.proofs.lemmas.List.Folds.{list_any-append}
@@ -8,16 +8,16 @@ use Rattle.std.specs.Prelude.{find, is_none, nat_le, if◌then◌else◌, codes}
 use Rattle.std.specs.List.{list_any, AllByRecursion}
 use Rattle.std.specs.Option.{option_map, option_map_or}
 use Rattle.sk_clock.specs.Row.{RowView}
-use Rattle.sk_triples.specs.Terms.{Sight, sights}
+use Rattle.sk_triples.specs.Terms.{sights}
 use Rattle.sk_triples.specs.Chain.{SegmentView}
-use Rattle.sk_triples.specs.Table.{is_left_at, end_text, end_field, kind_text}
+use Rattle.sk_triples.specs.Table.{is_left_at, end_text}
 use Rattle.sk_fit.specs.declared.chain.Chain.{Chain}
 use Rattle.sk_fit.specs.declared.chain.Segment.{Segment}
 use Rattle.sk_fit.specs.declared.chain.End.{End}
-use Rattle.sk_fit.specs.Given.{chain_view, segment_view, end_view}
+use Rattle.sk_fit.specs.Given.{chain_view, segment_view}
 use Rattle.sk_report.specs.Report.{IsEndWithin, IsSegmentWithin, IsChainOver}
 use Rattle.sk_report.specs.declared.marks.Marks.{Marks}
-use Rattle.sk_report.specs.Marks.{AreOver, Tells, end_words, kind_word}
+use Rattle.sk_report.specs.Marks.{AreOver, Tells, end_words}
 use Rattle.sk_report.specs.Ends.{IsMarked, AreEnds, leaves, marked_end}
 use Rattle.sk_report.proofs.Lasts.{leaves_none, leaves_at}
 

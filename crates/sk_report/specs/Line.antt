@@ -1,9 +1,11 @@
 -- One line of the table.
-use Rattle.std.specs.Prelude.{◌≡◌, ℕ, ◌+◌, ◌*◌, ◌^◌, ℤ, ◌-ℤ◌, List, [], ◌∷◌, ◌++◌, decimal, Some}
+use Rattle.std.specs.Prelude.{◌≡◌, ℕ, ◌+◌, ◌*◌, ◌^◌, ◌-ℤ◌, List, [], ◌∷◌, ◌++◌, decimal, Some}
 use Rattle.std.specs.List.{join_with_byte}
 use Rattle.sk_decimal.specs.Fixed.{fixed_text}
 use Rattle.sk_decimal.specs.Quotient.{floor_quotient}
 use Rattle.sk_clock.specs.Row.{RowView}
+use Rattle.sk_clock.specs.Clock.{ClockView, IsClock}
+use Rattle.sk_obs.specs.Observation.{IsId}
 use Rattle.sk_triples.specs.Terms.{TripleView}
 use Rattle.sk_triples.specs.Line.{line_over, covering}
 use Rattle.sk_triples.specs.Kernel.{TriplesView}
@@ -27,3 +29,7 @@ abbrev pub fields_of : KernelView → RowView → List ℕ → List ℕ → List
 fields_of k row kind ended = join_with_byte 59
     (row.id ∷ k.clock_text row.tick ∷ fixed_text k.decimals row.time
     ∷ (time_fields k row (covering k.triples row.tick) ++ kind ∷ ended ∷ []))
+
+-- what is known of a clock and an observation that has a line
+abbrev pub IsLined : ClockView → RowView → Type 0
+IsLined clock row = IsClock clock × IsId row.id

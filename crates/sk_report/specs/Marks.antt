@@ -1,5 +1,5 @@
 -- What a chain says of each observation, by places.
-use Rattle.std.specs.Prelude.{◌≡◌, ℕ, ◌<◌, ◌≤◌, Bool, true, false, nat_le, List, [], length, codes, slice_index_or, Option, None, Some, IfSome, if◌then◌else◌}
+use Rattle.std.specs.Prelude.{◌≡◌, ℕ, ◌<◌, false, nat_le, List, [], length, codes, slice_index_or, Option, None, IfSome, if◌then◌else◌}
 use Rattle.std.specs.Option.{option_map_or}
 use Rattle.sk_clock.specs.Row.{RowView}
 use Rattle.sk_triples.specs.Table.{ChainView, end_text, end_field, kind_text}

@@ -11,16 +11,19 @@ use sk_grammar::Bytes;
 use sk_obs::Observation;
 use std::alloc::Global;
 
+/// Room for nearly every line, taken once.
+const USUAL_LENGTH: usize = 128;
+
 // Appends the id, the clock text and the observed time, each with `;` behind it.
 fn print_reading(out: &mut Vec<u8>, observation: &Observation, text: &str) -> Result<(), NoMemory>
     ensures { OnOk result (out.new.items ≡ out.old.items ++ observation.now.id ++ 59 ∷ (text.now ++ 59 ∷ (fixed_text 12 observation.now.time ++ 59 ∷ []))) }
 {
     out.extend_from_slice(observation.id.as_slice())?;
-    out.extend_from_slice(b";")?;
+    out.push(b';')?;
     out.extend_from_slice(text.as_bytes())?;
-    out.extend_from_slice(b";")?;
+    out.push(b';')?;
     observation.time.print(out)?;
-    out.extend_from_slice(b";")?;
+    out.push(b';')?;
     Ok(())
 }
 
@@ -40,9 +43,9 @@ fn print_times(out: &mut Vec<u8>, timed: Timed, difference: Fixed<0>) -> Result<
     ensures { OnOk result (out.new.items ≡ out.old.items ++ fixed_text 12 timed.time.units ++ 59 ∷ (fixed_text 0 difference.units ++ 59 ∷ (decimal (timed.place + 1) ++ 59 ∷ []))) }
 {
     timed.time.print(out)?;
-    out.extend_from_slice(b";")?;
+    out.push(b';')?;
     difference.print(out)?;
-    out.extend_from_slice(b";")?;
+    out.push(b';')?;
     print_number(out, timed.place)?;
     Ok(())
 }
@@ -52,7 +55,7 @@ fn print_marks(out: &mut Vec<u8>, kind: &str, ended: &[u8]) -> Result<(), NoMemo
     ensures { OnOk result (out.new.items ≡ out.old.items ++ kind.now ++ 59 ∷ ended.now) }
 {
     out.extend_from_slice(kind.as_bytes())?;
-    out.extend_from_slice(b";")?;
+    out.push(b';')?;
     out.extend_from_slice(ended)?;
     Ok(())
 }
@@ -73,7 +76,7 @@ pub fn line_of(
     let difference = Fixed {
         units: observation.time.units - timed.time.units,
     };
-    let mut out = Vec::new(alloc);
+    let mut out = Vec::with_capacity(alloc, USUAL_LENGTH)?;
     print_reading(&mut out, observation, text)?;
     print_times(&mut out, timed, difference)?;
     print_marks(&mut out, kind, ended)?;

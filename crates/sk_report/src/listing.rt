@@ -1,13 +1,14 @@
 //! The lines of the table.
 
-ghost use Rattle.std.specs.Prelude.{◌≡◌, ◌<◌, ℕ, Option, [], ◌∷◌, ◌++◌, IfOk, IfSome, OnOk, OnErr, length, option_map, codes, decimal};
+ghost use Rattle.std.specs.Prelude.{◌≡◌, ◌<◌, ℕ, All, Option, [], ◌∷◌, ◌++◌, IfOk, IfSome, OnOk, OnErr, length, option_map, codes, decimal};
 ghost use Rattle.sk_checks.specs.Checks.{JudgesUnless, carried, FirstRefuses};
+ghost use Rattle.sk_grammar.specs.Document.{IsTextLine};
 ghost use Rattle.sk_triples.specs.Kernel.{AreOf, range_checks};
 ghost use Rattle.sk_triples.specs.Table.{ChainView, kernel_view, row_lines_from};
 ghost use Rattle.sk_triples.specs.Terms.{sights};
 ghost use Rattle.sk_fit.specs.Given.{chain_view};
 ghost use Rattle.sk_report.specs.Marks.{AreOver, Tells};
-ghost use Rattle.sk_report.specs.Line.{fields_of};
+ghost use Rattle.sk_report.specs.Line.{IsLined, fields_of};
 ghost use Rattle.sk_report.specs.Report.{IsChainOver, table_checks, table_of};
 
 use crate::fault::ReportFault;
@@ -46,9 +47,10 @@ fn row_line(
     ended: &[u8],
 ) -> Result<Bytes, ReportFault>
     requires { AreOf clock.now triples.now }
-    ensures { JudgesUnless ReportFault.NoMemory
+    ensures line { JudgesUnless ReportFault.NoMemory
         (carried (FirstRefuses (range_checks triples.now observation.now.tick)) (ReportFault.Range observation.now.number) ∷ [])
         (λ line. line ≡ fields_of (kernel_view 12 clock.now triples.now.triples) observation.now kind.now ended.now) result }
+    ensures known { IfOk result (λ _. IsLined clock.now observation.now) }
 {
     let tick = observation.tick;
     let timed = match time_of(triples, clock, tick) {
@@ -75,9 +77,10 @@ fn push_rows(
 ) -> Result<(), ReportFault>
     requires triples { AreOf clock.now triples.now }
     requires marks { AreOver (length observations.now) marks.now }
-    ensures { (chain : Option ChainView) → ((place : ℕ) → place < length observations.now → Tells observations.now chain marks.now place)
+    ensures rows { (chain : Option ChainView) → ((place : ℕ) → place < length observations.now → Tells observations.now chain marks.now place)
         → JudgesUnless ReportFault.NoMemory (table_checks triples.now observations.now)
         (λ _. lines.new ≡ lines.old ++ row_lines_from (kernel_view 12 clock.now triples.now.triples) chain observations.now 0 observations.now) result }
+    ensures known { OnOk result (All (IsLined clock.now) observations.now) }
 {
     for (place, observation) in observations.iter().enumerate() {
         let kind = kind_at(marks, place);
@@ -121,8 +124,10 @@ pub fn table(
 ) -> Result<List<Bytes>, ReportFault>
     requires triples { AreOf clock.now triples.now }
     requires chain { IfSome chain (λ c. IsChainOver (length observations.now) c.now) }
-    ensures { JudgesUnless ReportFault.NoMemory (table_checks triples.now observations.now)
+    ensures table { JudgesUnless ReportFault.NoMemory (table_checks triples.now observations.now)
         (λ lines. lines ≡ table_of clock.now triples.now observations.now (option_map (λ c. c.now) chain.entry)) result }
+    // A block can have them as its text.
+    ensures lines { IfOk result (All IsTextLine) }
 {
     let Ok(marks) = marks_for(alloc, observations, chain) else {
         return Err(ReportFault::NoMemory);

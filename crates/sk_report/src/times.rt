@@ -2,6 +2,7 @@
 
 ghost use Rattle.std.specs.Prelude.{◌≡◌, ◌*◌, ◌^◌, pos, neg_ℤ, ◌*ℤ◌, ◌≤ℤ◌, IfOk};
 ghost use Rattle.sk_checks.specs.Checks.{Judges};
+ghost use Rattle.sk_clock.specs.Clock.{IsClock};
 ghost use Rattle.sk_triples.specs.Kernel.{AreOf, range_checks};
 ghost use Rattle.sk_report.specs.Line.{IsTimed};
 
@@ -22,6 +23,7 @@ pub fn time_of(triples: &Triples, clock: &Clock, tick: u64) -> Result<Timed, Ran
     ensures timed { Judges (range_checks triples.now tick) (IsTimed triples.now tick) result }
     ensures from { IfOk result (λ t. neg_ℤ (pos (10 ^ 33)) ≤ℤ t.time.units) }
     ensures to { IfOk result (λ t. t.time.units ≤ℤ pos (10 ^ 33)) }
+    ensures clock { IfOk result (λ _. IsClock clock.now) }
 {
     let time = match triples.time_at(tick) {
         Ok(time) => time,

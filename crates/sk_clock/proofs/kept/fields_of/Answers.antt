@@ -10,6 +10,7 @@ invariant_of-push c =
       modulus_fits = c.requires.moduli.1 c.loop-i.i 0 (omega arith);
       offset_fits = c.requires.offsets c.loop-i.i 0 (omega (arith, c.requires.as_many));
       unit_fits = (unit_of_later c.args.moduli.now c.loop-i.i c.capped_product.result c.requires.moduli later).0;
+      width_fits = c.digit_count.ensures;
     }
 
 pub loop-i-preserved : goal.loop-i-preserved

@@ -1,4 +1,4 @@
-use Rattle.std.proofs.Common.{◌≡◌, ℕ, ◌<◌, length, Option, None, Result, Ok, Err, IfOk, sym, subst, Bor}
+use Rattle.std.proofs.Common.{ℕ, ◌<◌, length, Option, None, Result, Ok, Err, IfOk, sym, subst, Bor}
 use Rattle.std.specs.Option.{option_map}
 use Rattle.sk_triples.specs.Terms.{sights}
 use Rattle.sk_fit.specs.declared.chain.Chain.{Chain}

@@ -1,4 +1,4 @@
-use Rattle.std.proofs.Common.{◌≡◌, ℕ, Bool, List, length, refl, subst, sym, ap, ◌∙◌, rules, arith}
+use Rattle.std.proofs.Common.{◌≡◌, ℕ, Bool, List, length, refl, subst, sym, ap, ◌∙◌, rules}
 use Rattle.sk_fit.specs.declared.chain.Segment.{Segment}
 use Rattle.sk_report.specs.Ends.{IsMarked, AreEnds}
 use Rattle.sk_report.proofs.MarkLemmas.{are_over, they_tell}

@@ -1,10 +1,8 @@
-use Rattle.std.proofs.Common.{◌≡◌, ◌*◌, ◌^◌, ◌≤◌, ◌<◌, ℕ, arith, rules, subst, sym}
-use Rattle.std.proofs.lemmas.Int.{ints}
-use Rattle.std.specs.Prelude.{ℤ, pos, neg_ℤ, ◌≤ℤ◌, ◌<ℤ◌}
+use Rattle.std.proofs.Common.{◌≡◌, ◌*◌, ◌^◌, ◌≤◌, ℕ, rules, subst, sym}
+use Rattle.std.specs.Prelude.{ℤ, pos, neg_ℤ, ◌≤ℤ◌}
 use Rattle.std.specs.Int.{int_div_euclid}
 use mir.Syntax.{w128}
 use mir.Val.{SFits}
-use Rattle.sk_decimal.specs.Fixed.{IsFloor}
 use Rattle.sk_decimal.proofs.Quotients.{floor_is}
 use Rattle.sk_clock.specs.Clock.{ticks_per}
 use Rattle.sk_triples.proofs.KernelOf.{positive_count}
