@@ -305,15 +305,6 @@ status_words (OverRefused place stop) = decimal place ∷ text_words stop
 abbrev pub note_line : Status → List ℕ
 note_line status = join_with_byte 59 (codes "refused" ∷ decimal (code_of status) ∷ status_words status) ++ 10 ∷ []
 
--- the line is told in full: it holds no amount of a fall
-abbrev pub IsFitExact : FitFault → Type 0
-IsFitExact (fit.OldFalls fall) = ⊥
-IsFitExact fault = Unit {0}
-
-abbrev pub IsToldExactly : Status → Type 0
-IsToldExactly (NotPublished fault) = IsFitExact fault
-IsToldExactly status = Unit {0}
-
 -- Want of memory has a status of its own, and no other status carries it.
 abbrev pub CarriesNoMemory : Status → Type 0
 CarriesNoMemory (LeapRefused (leap_stop.Grammar grammar.NoMemory)) = ⊥

@@ -1,9 +1,11 @@
 //! The line that a status writes to the notes. It takes no memory.
 
-ghost use Rattle.std.specs.Prelude.{◌≡◌, ◌≤◌, ◌+◌, [], ◌++◌, ◌∷◌, length, codes, decimal, pos, ◌<ℤ◌};
+ghost use Rattle.std.specs.Prelude.{◌≡◌, ◌≤◌, ◌+◌, ◌*◌, ◌^◌, [], ◌++◌, ◌∷◌, length, codes, decimal, nat_abs, pos, ◌<ℤ◌};
+ghost use Rattle.sk_decimal.specs.Fixed.{fixed_text};
+ghost use Rattle.sk_decimal.specs.Quotient.{ceiling_quotient};
 ghost use Rattle.sk_edge.specs.Causes.{Rose};
 ghost use Rattle.sk_status.specs.Written.{Written, IsNoted};
-ghost use Rattle.sk_status.specs.Notes.{behind, note_line, status_words, fit_words, IsToldExactly, IsFitExact};
+ghost use Rattle.sk_status.specs.Notes.{behind, note_line, status_words, fit_words};
 ghost use Rattle.sk_status.specs.Status.{code_of};
 
 use crate::pieces::{push_number, push_numbered, push_word};
@@ -12,40 +14,45 @@ use crate::words::{
     push_audit, push_excerpt, push_file, push_kernel_stop, push_leap_stop, push_obs_stop,
     push_text_stop, push_time, push_words_fault,
 };
-use sk_decimal::{Line, floor_div};
+use sk_decimal::{Line, ceil_div};
 use sk_edge::{Failed, Sink, write_all};
 use sk_fit::FitFault;
 use sk_triples::Fall;
 
-/// The least whole number that is not below num / den.
-fn ceiling(num: i128, den: i128) -> i128
+/// The amount num / den of a fall, in 10^-18 s, as nanoseconds, rounded up.
+fn nanoseconds_up(num: i128, den: i128) -> i128
     requires { pos 0 <ℤ den }
+    ensures { result ≡ ceiling_quotient num (nat_abs den * 10 ^ 9) }
 {
-    let floor = floor_div(num, den);
-    if num.rem_euclid(den) == 0 {
-        floor
-    } else {
-        floor.saturating_add(1)
+    ceil_div(ceil_div(num, den), 1_000_000_000)
+}
+
+/// Appends a whole number.
+fn push_whole(line: &mut Line, number: i128)
+    requires { length line.old ≤ 87 }
+    ensures text { line.new ≡ line.old ++ fixed_text 0 number }
+    ensures length { length line.new ≤ length line.old + 41 }
+{
+    if number < 0 {
+        line.push(b"-");
     }
+    line.push_number(number.unsigned_abs());
 }
 
 /// Appends a fall's join, and its amount in nanoseconds, rounded up.
 fn push_fall(line: &mut Line, fall: Fall)
     requires { length line.old ≤ 12 }
-    ensures { length line.new ≤ length line.old + 100 }
+    ensures words { line.new ≡ line.old ++ behind (fit_words (FitFault.OldFalls fall)) }
+    ensures length { length line.new ≤ length line.old + 100 }
 {
     push_numbered(line, "OldFalls", fall.join);
-    let amount = ceiling(ceiling(fall.amount.num, fall.amount.den), 1_000_000_000);
     line.push(b";");
-    if amount < 0 {
-        line.push(b"-");
-    }
-    line.push_number(amount.unsigned_abs());
+    push_whole(line, nanoseconds_up(fall.amount.num, fall.amount.den));
 }
 
 fn push_fit(line: &mut Line, fault: FitFault)
     requires { length line.old ≤ 12 }
-    ensures words { IsFitExact fault → line.new ≡ line.old ++ behind (fit_words fault) }
+    ensures words { line.new ≡ line.old ++ behind (fit_words fault) }
     ensures length { length line.new ≤ length line.old + 100 }
 {
     match fault {
@@ -70,7 +77,7 @@ fn push_over(line: &mut Line, place: u32, stop: TextStop)
 
 fn push_status(line: &mut Line, status: Status)
     requires { length line.old ≤ 12 }
-    ensures words { IsToldExactly status → line.new ≡ line.old ++ behind (status_words status) }
+    ensures words { line.new ≡ line.old ++ behind (status_words status) }
     ensures length { length line.new ≤ length line.old + 110 }
 {
     match status {
@@ -127,7 +134,7 @@ fn begun(status: &Status) -> Line
 
 /// The line of a status.
 pub fn line_for(status: Status) -> Line
-    ensures { IsToldExactly status → result ≡ note_line status }
+    ensures { result ≡ note_line status }
 {
     let mut line = begun(&status);
     push_status(&mut line, status);
@@ -137,7 +144,6 @@ pub fn line_for(status: Status) -> Line
 
 /// Writes the line of a status to the notes; nothing of a run that is done.
 pub fn write_note<N: Sink>(notes: &mut N, status: Status)
-    requires { IsToldExactly status }
     ensures { let noted : Written = record {
       before = N.written notes.old;
       after = N.written notes.new;

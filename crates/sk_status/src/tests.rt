@@ -1,11 +1,23 @@
+ghost use Rattle.std.specs.Prelude.{pos, ◌<ℤ◌};
+
 use super::*;
 use sk_edge::{MemorySink, Sink};
 use sk_fit::FitFault;
 use sk_grammar::{GrammarFault, Reason};
 use sk_obs::{ClockWord, CodeFault, ObsFault};
+use sk_ratio::Ratio;
+use sk_triples::Fall;
 use sk_words::{OptionName, WordsFault};
 use std::alloc::AllocError;
 use std::test::Fail;
+
+// The third join falls by num / den, in 10^-18 s.
+fn fall(num: i128, den: i128) -> Status
+    requires { pos 0 <ℤ den }
+{
+    let amount = Ratio { num, den };
+    Status::NotPublished(FitFault::OldFalls(Fall { join: 3, amount }))
+}
 
 #[test]
 fn each_end_has_a_line_and_a_number(rt: HostRuntime) {
@@ -14,7 +26,7 @@ fn each_end_has_a_line_and_a_number(rt: HostRuntime) {
         reason: Reason::BadComma,
     };
     let code = ObsFault::CodeRefused(4, CodeFault::CucAgencyEpoch);
-    let table: [(Status, u8, &str); 9] = [
+    let table: [(Status, u8, &str); 12] = [
         (
             Status::WordsRefused(WordsFault::OutOfRange(OptionName::BandPpm)),
             2,
@@ -39,6 +51,14 @@ fn each_end_has_a_line_and_a_number(rt: HostRuntime) {
             Status::NotPublished(FitFault::NoRate(7)),
             6,
             "refused;6;NoRate;7\n",
+        ),
+        // 3.5000000005 ns, rounded up.
+        (fall(7_000_000_001, 2), 6, "refused;6;OldFalls;3;4\n"),
+        (fall(-7_000_000_001, 2), 6, "refused;6;OldFalls;3;-3\n"),
+        (
+            fall(i128::MAX, 1),
+            6,
+            "refused;6;OldFalls;3;170141183460469231731687303716\n",
         ),
         (
             Status::ReadFault(FileKind::Over(3)),

@@ -1,8 +1,8 @@
 -- The options that a command needs are given.
-use Rattle.std.proofs.Common.{◌≡◌, List, ℕ, Option, Some, None, Ok, false, sym, subst}
+use Rattle.std.proofs.Common.{◌≡◌, List, ℕ, Option, None, Ok, false, sym, subst}
 use Rattle.std.specs.Prelude.{is_none}
 use Rattle.sk_words.specs.declared.tables.Command.{Command}
-use Rattle.sk_words.specs.declared.tables.Command.TheVariants.{Residuals, Normal, Convert}
+use Rattle.sk_words.specs.declared.tables.Command.TheVariants.{Publish, Residuals, Normal, Convert}
 use Rattle.sk_words.specs.declared.tables.OptionName.TheVariants as opt
 use Rattle.sk_words.specs.Words.{matches}
 use Rattle.sk_words.specs.Request.{Options, options_of, options_fault, first_missing, first_out_of_range, needs, used}
@@ -14,11 +14,15 @@ IsGiven text = is_none text ≡ false
 
 -- the files that a command needs are named
 abbrev pub AreNamed : Command → Options → Type 0
+AreNamed Publish options = IsGiven (options opt.Kernel) × IsGiven (options opt.Obs)
 AreNamed Residuals options = IsGiven (options opt.Kernel) × IsGiven (options opt.Obs)
 AreNamed Normal options = IsGiven (options opt.Kernel)
 AreNamed Convert options = IsGiven (options opt.Kernel)
 
 named : (command : Command) (options : Options) → options_fault command options ≡ None → AreNamed command (used command options)
+named Publish options h =
+    let given = none_found (λ name. is_none (options name)) (needs Publish) (no_fault (first_missing Publish options) (first_out_of_range options) h).0 in
+    (given.0, given.1.0)
 named Residuals options h =
     let given = none_found (λ name. is_none (options name)) (needs Residuals) (no_fault (first_missing Residuals options) (first_out_of_range options) h).0 in
     (given.0, given.1.0)

@@ -1,17 +1,16 @@
 -- The number of the spacecraft is given where the command needs it, and is in its range.
-use Rattle.std.proofs.Common.{rules, ◌≡◌, ℕ, ◌≤◌, Bool, true, false, ◌&&◌, cond, leb, length, List, [], ◌∷◌, find, refl, sym, ap, subst, ◌∙◌, Option, Some, None}
+use Rattle.std.proofs.Common.{rules, ◌≡◌, ℕ, ◌≤◌, Bool, true, false, ◌&&◌, cond, leb, List, [], ◌∷◌, find, refl, sym, ap, ◌∙◌, Option, Some, None}
 use Rattle.std.specs.Prelude.{not, is_none, option_and_then}
 use Rattle.std.specs.Option.{option_map, option_map_or}
 use Rattle.std.specs.Str.Parse.{digits_value}
 use Rattle.std.proofs.lemmas.Bool.{false≢true}
 use Rattle.clap.specs.Words.{Row}
 use Rattle.sk_words.specs.declared.tables.Command.{Command}
-use Rattle.sk_words.specs.declared.tables.Command.TheVariants.{Residuals, Normal, Convert}
+use Rattle.sk_words.specs.declared.tables.Command.TheVariants.{Publish, Residuals, Normal, Convert}
 use Rattle.sk_words.specs.declared.tables.OptionName.{OptionName}
 use Rattle.sk_words.specs.declared.tables.OptionName.TheVariants as opt
-use Rattle.sk_words.specs.declared.fault.WordsFault.{WordsFault}
 use Rattle.sk_words.specs.declared.fault.WordsFault.TheVariants.{UnknownCommand, NeedOption, OutOfRange}
-use Rattle.sk_words.specs.Request.{Options, is_number, is_in_range, is_out_of_range, number_of, options_of, options_fault, rows_fault, first_missing, first_out_of_range, needs, all_options, used, number_or}
+use Rattle.sk_words.specs.Request.{is_number, is_in_range, is_out_of_range, number_of, options_of, options_fault, first_missing, first_out_of_range, needs, all_options, used, number_or}
 use Rattle.sk_words.specs.Asked.{AsksFor, NeedsNumber}
 
 -- the test is false of each
@@ -38,7 +37,7 @@ three true true false h = absurd (false≢true h)
 three true false d h = absurd (false≢true h)
 three false b d h = absurd (false≢true h)
 
-inside : (b : Bool) → not b ≡ false → b ≡ true
+pub inside : (b : Bool) → not b ≡ false → b ≡ true
 inside true h = refl
 inside false h = sym h
 
@@ -68,6 +67,7 @@ module _ (rows : List Row) (command : Command) (h : AsksFor rows command) where
 
 pub sc_given : (rows : List Row) (command : Command) → AsksFor rows command → NeedsNumber command
     → (n : ℕ) × (option_and_then number_of (options_of rows opt.Sc) ≡ Some n) × (1 ≤ n) × (n ≤ 999999999) × (n ≡ number_or 0 opt.Sc (used command (options_of rows)))
+sc_given rows Publish h needed = number_part (options_of rows opt.Sc) (given rows Publish h).1.1.0 (within rows Publish h)
 sc_given rows Residuals h needed = number_part (options_of rows opt.Sc) (given rows Residuals h).1.1.0 (within rows Residuals h)
 sc_given rows Normal h needed = absurd (false≢true needed)
 sc_given rows Convert h needed = number_part (options_of rows opt.Sc) (given rows Convert h).1.0 (within rows Convert h)

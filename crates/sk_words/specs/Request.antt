@@ -1,18 +1,18 @@
 -- What the words ask for.
-use Rattle.std.specs.Prelude.{◌≡◌, ℕ, ◌*◌, ◌+◌, ◌-◌, ◌<◌, ◌≤◌, Bool, true, false, ◌&&◌, ◌||◌, not, nat_le, nat_lt, ◌==◌, List, [], ◌∷◌, ◌++◌, length, codes, find, map, Option, Some, None, is_some, is_none, option_and_then, unwrap_or, if◌then◌else◌, Result, Ok, Err}
+use Rattle.std.specs.Prelude.{◌≡◌, ℕ, Bool, true, false, ◌&&◌, ◌||◌, not, nat_le, ◌==◌, List, [], ◌∷◌, ◌++◌, length, codes, find, Option, Some, None, is_none, option_and_then, unwrap_or, if◌then◌else◌}
 use Rattle.std.specs.List.{list_all, list_any, slice_split}
 use Rattle.std.specs.Option.{option_map, option_map_or, option_to_list}
 use Rattle.std.specs.Char.{is_ascii_digit}
 use Rattle.std.specs.Str.{bytes_eq}
 use Rattle.std.specs.Str.Parse.{digits_value}
 use Rattle.clap.specs.Words.{Row}
-use Rattle.sk_words.specs.Words.{option_text, command_text, faults, matches}
+use Rattle.sk_words.specs.Words.{option_text, command_text}
 use Rattle.sk_words.specs.declared.tables.Command.{Command}
-use Rattle.sk_words.specs.declared.tables.Command.TheVariants.{Residuals, Normal, Convert}
+use Rattle.sk_words.specs.declared.tables.Command.TheVariants.{Publish, Residuals, Normal, Convert}
 use Rattle.sk_words.specs.declared.tables.OptionName.{OptionName}
 use Rattle.sk_words.specs.declared.tables.OptionName.TheVariants as opt
 use Rattle.sk_words.specs.declared.fault.WordsFault.{WordsFault}
-use Rattle.sk_words.specs.declared.fault.WordsFault.TheVariants.{NotTaken, UnknownCommand, NeedOption, OutOfRange}
+use Rattle.sk_words.specs.declared.fault.WordsFault.TheVariants.{UnknownCommand, NeedOption, OutOfRange}
 
 -- ---- the tables
 
@@ -43,21 +43,24 @@ all_options = opt.Leap ∷ opt.Kernel ∷ opt.Obs ∷ opt.Sc ∷ opt.TolNs ∷ o
     ∷ opt.Id ∷ opt.Clock ∷ opt.Seed ∷ opt.Count ∷ opt.Reject ∷ opt.Time ∷ opt.New ∷ opt.Over ∷ opt.From ∷ opt.To ∷ []
 
 abbrev pub word_of : Command → List ℕ
+word_of Publish = codes "publish"
 word_of Residuals = codes "residuals"
 word_of Normal = codes "normal"
 word_of Convert = codes "convert"
 
 abbrev pub all_commands : List Command
-all_commands = Residuals ∷ Normal ∷ Convert ∷ []
+all_commands = Publish ∷ Residuals ∷ Normal ∷ Convert ∷ []
 
 -- the options that a command needs, in the order of the option table
 abbrev pub needs : Command → List OptionName
+needs Publish = opt.Kernel ∷ opt.Obs ∷ opt.Sc ∷ []
 needs Residuals = opt.Kernel ∷ opt.Obs ∷ opt.Sc ∷ []
 needs Normal = opt.Kernel ∷ []
 needs Convert = opt.Kernel ∷ opt.Sc ∷ opt.Clock ∷ []
 
 -- the options that a command uses; others that are given are checked for their range alone
 abbrev pub uses : Command → List OptionName
+uses Publish = opt.Leap ∷ opt.Kernel ∷ opt.Obs ∷ opt.Sc ∷ opt.TolNs ∷ opt.RateDecimals ∷ opt.BandPpm ∷ opt.SlipNs ∷ opt.Hold ∷ opt.Id ∷ opt.Reject ∷ []
 uses Residuals = opt.Leap ∷ opt.Kernel ∷ opt.Obs ∷ opt.Sc ∷ []
 uses Normal = opt.Kernel ∷ []
 uses Convert = opt.Leap ∷ opt.Kernel ∷ opt.Sc ∷ opt.Clock ∷ []
@@ -106,6 +109,10 @@ is_in_range opt.New text = is_file_name text
 is_in_range opt.Over text = list_all is_file_name (over_names text) && nat_le (length (over_names text)) 16
 is_in_range opt.From text = is_number_in 0 9007199254740991 text
 is_in_range opt.To text = is_number_in 0 9007199254740991 text
+
+-- the texts of the option are the numbers from low to high
+abbrev pub HoldsNumbers : OptionName → ℕ → ℕ → Type 0
+HoldsNumbers name low high = (text : List ℕ) → is_in_range name text ≡ is_number_in low high text
 
 -- ---- the words
 

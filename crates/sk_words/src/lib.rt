@@ -5,6 +5,7 @@ mod fault;
 mod matched;
 mod ranges;
 mod request;
+mod settings;
 mod tables;
 #[cfg(test)]
 mod tests;

@@ -1,10 +1,10 @@
 //! What the words ask for.
 
-ghost use Rattle.std.specs.Prelude.{◌≡◌, Err, false, find, map, option_map, option_and_then, IfOk};
+ghost use Rattle.std.specs.Prelude.{◌≡◌, Err, false, find, map, option_map, option_and_then, IfOk, IfSome, IsTrue};
 ghost use Rattle.std.specs.Str.{bytes_eq};
 ghost use Rattle.std.specs.Int.{IsInRange};
 ghost use Rattle.sk_words.specs.Words.{is_taken, command_text};
-ghost use Rattle.sk_words.specs.Request.{all_commands, command_of as command_by, first_missing as missing_by, first_out_of_range as out_of_range_by, is_out_of_range as is_outside, options_fault as fault_by, number_of as number_of_text, number_or, options_of, text_or, used, word_of};
+ghost use Rattle.sk_words.specs.Request.{all_commands, command_of as command_by, first_missing as missing_by, first_out_of_range as out_of_range_by, is_in_range as is_within_range, is_out_of_range as is_outside, options_fault as fault_by, number_of as number_of_text, number_or, options_of, text_or, used, word_of};
 ghost use Rattle.sk_words.specs.Asked.{rows_in, options_in, AsksFor, MayAsk, NeedsNumber};
 
 use crate::fault::{WordsFault, WordsStop};
@@ -160,7 +160,8 @@ impl<'a> Request<'a> {
 
     /// The text of an option that the command uses, where it is given.
     pub fn text(&self, name: OptionName) -> Option<&'a str>
-        ensures { option_map (λ s. s.now) result ≡ options_in self.now name }
+        ensures text { option_map (λ s. s.now) result ≡ options_in self.now name }
+        ensures range { IfSome result (λ s. IsTrue (is_within_range name s.now)) }
     {
         if self.command.uses_option(name) {
             text_of(&self.matches, name)

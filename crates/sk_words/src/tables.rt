@@ -32,12 +32,18 @@ pub enum OptionName {
 /// The commands, in the order of their table.
 #[derive(Clone, Copy, Debug)]
 pub enum Command {
+    Publish,
     Residuals,
     Normal,
     Convert,
 }
 
-static COMMANDS: [Command; 3] = [Command::Residuals, Command::Normal, Command::Convert];
+static COMMANDS: [Command; 4] = [
+    Command::Publish,
+    Command::Residuals,
+    Command::Normal,
+    Command::Convert,
+];
 
 static OPTIONS: [OptionName; 19] = [
     OptionName::Leap,
@@ -59,6 +65,22 @@ static OPTIONS: [OptionName; 19] = [
     OptionName::Over,
     OptionName::From,
     OptionName::To,
+];
+
+static PUBLISH_NEEDS: [OptionName; 3] = [OptionName::Kernel, OptionName::Obs, OptionName::Sc];
+
+static PUBLISH_USES: [OptionName; 11] = [
+    OptionName::Leap,
+    OptionName::Kernel,
+    OptionName::Obs,
+    OptionName::Sc,
+    OptionName::TolNs,
+    OptionName::RateDecimals,
+    OptionName::BandPpm,
+    OptionName::SlipNs,
+    OptionName::Hold,
+    OptionName::Id,
+    OptionName::Reject,
 ];
 
 static RESIDUALS_NEEDS: [OptionName; 3] = [OptionName::Kernel, OptionName::Obs, OptionName::Sc];
@@ -132,6 +154,7 @@ impl Command {
         ensures { result.now ≡ word_of self }
     {
         match self {
+            Command::Publish => "publish",
             Command::Residuals => "residuals",
             Command::Normal => "normal",
             Command::Convert => "convert",
@@ -143,6 +166,7 @@ impl Command {
         ensures { result.now ≡ needs_of self }
     {
         match self {
+            Command::Publish => PUBLISH_NEEDS.as_slice(),
             Command::Residuals => RESIDUALS_NEEDS.as_slice(),
             Command::Normal => NORMAL_NEEDS.as_slice(),
             Command::Convert => CONVERT_NEEDS.as_slice(),
@@ -154,6 +178,7 @@ impl Command {
         ensures { result.now ≡ uses_of self }
     {
         match self {
+            Command::Publish => PUBLISH_USES.as_slice(),
             Command::Residuals => RESIDUALS_USES.as_slice(),
             Command::Normal => NORMAL_USES.as_slice(),
             Command::Convert => CONVERT_USES.as_slice(),

@@ -130,3 +130,210 @@ fn words_are_judged_in_the_order_of_the_tables(rt: HostRuntime) {
         assert!(rt; refusal(alloc, words) == (*cause, *name), "at {place}");
     }
 }
+
+/// What is refused of `publish` with all that it needs and one further word.
+fn refusal_of_publish(alloc: Global, word: &str) -> (&'static str, &'static str) {
+    let words = [
+        "station",
+        "publish",
+        "--kernel=k",
+        "--obs=o",
+        "--sc=99",
+        word,
+    ];
+    refusal(alloc, words.as_slice())
+}
+
+#[test]
+fn publish_takes_what_is_in_range(rt: HostRuntime) {
+    let alloc = rt.alloc();
+    let taken: [&str; 19] = [
+        "--leap=l",
+        "--tol-ns=1",
+        "--tol-ns=60000000000",
+        "--rate-decimals=1",
+        "--rate-decimals=15",
+        "--band-ppm=1",
+        "--band-ppm=100000",
+        "--slip-ns=0",
+        "--slip-ns=60000000000",
+        "--hold=0",
+        "--hold=9007199254740991",
+        "--id=2024-06-01",
+        "--id=!~",
+        "--id=0123456789012345678901234567890123456789012345678901234567890123456789012345678",
+        "--reject=0",
+        "--reject=100000",
+        "--reject=0000000000000001",
+        // Options of other commands are taken, and are not used.
+        "--clock=",
+        "--count=1",
+    ];
+    for (place, word) in taken.iter().enumerate() {
+        assert!(rt;
+            refusal_of_publish(alloc, word) == ("Taken", ""),
+            "at {place}"
+        );
+    }
+}
+
+#[test]
+fn publish_refuses_what_is_out_of_range(rt: HostRuntime) {
+    let alloc = rt.alloc();
+    let refused: [(&str, &str); 26] = [
+        ("--leap=", "leap"),
+        ("--tol-ns=0", "tol-ns"),
+        ("--tol-ns=60000000001", "tol-ns"),
+        ("--tol-ns=1e3", "tol-ns"),
+        ("--tol-ns=", "tol-ns"),
+        ("--rate-decimals=0", "rate-decimals"),
+        ("--rate-decimals=16", "rate-decimals"),
+        ("--band-ppm=0", "band-ppm"),
+        ("--band-ppm=100001", "band-ppm"),
+        ("--slip-ns=-1", "slip-ns"),
+        ("--slip-ns=60000000001", "slip-ns"),
+        ("--hold=9007199254740992", "hold"),
+        ("--hold=+1", "hold"),
+        ("--id=", "id"),
+        (
+            "--id=01234567890123456789012345678901234567890123456789012345678901234567890123456789",
+            "id",
+        ),
+        ("--id=2024 06", "id"),
+        ("--id=a,b", "id"),
+        ("--id=a(b", "id"),
+        ("--id=a)b", "id"),
+        ("--id=a'b", "id"),
+        ("--id=\x7f", "id"),
+        ("--reject=100001", "reject"),
+        ("--reject=00000000000000001", "reject"),
+        // So are options of other commands.
+        ("--count=0", "count"),
+        ("--seed=4294967296", "seed"),
+        ("--over=", "over"),
+    ];
+    for (place, (word, name)) in refused.iter().enumerate() {
+        assert!(rt;
+            refusal_of_publish(alloc, word) == ("OutOfRange", *name),
+            "at {place}"
+        );
+    }
+}
+
+#[test]
+fn publish_is_judged_in_the_order_of_the_tables(rt: HostRuntime) {
+    let alloc = rt.alloc();
+    let table: [(&[&str], &str, &str); 6] = [
+        (&["station", "publish"], "NeedOption", "kernel"),
+        (&["station", "publish", "--kernel=k"], "NeedOption", "obs"),
+        (
+            &["station", "publish", "--obs=", "--kernel=k"],
+            "NeedOption",
+            "sc",
+        ),
+        (
+            &["station", "publish", "--sc=0", "--id=", "--obs=o"],
+            "NeedOption",
+            "kernel",
+        ),
+        (
+            &[
+                "station",
+                "publish",
+                "--reject=x",
+                "--hold=x",
+                "--sc=99",
+                "--obs=o",
+                "--kernel=k",
+            ],
+            "OutOfRange",
+            "hold",
+        ),
+        (
+            &[
+                "station",
+                "publish",
+                "--tol-ns=0",
+                "--sc=1000000000",
+                "--obs=o",
+                "--kernel=k",
+            ],
+            "OutOfRange",
+            "sc",
+        ),
+    ];
+    for (place, (words, cause, name)) in table.iter().enumerate() {
+        assert!(rt; refusal(alloc, words) == (*cause, *name), "at {place}");
+    }
+}
+
+#[test]
+fn what_is_not_given_has_its_default(rt: HostRuntime) -> Result<(), Fail> {
+    let alloc = rt.alloc();
+    let words = ["station", "publish", "--kernel=k", "--obs=o", "--sc=99"];
+    let request = match requested(alloc, words.as_slice()) {
+        Ok(request) => request,
+        Err(_) => return Err("refused".into()),
+    };
+    assert!(rt; request.command().word() == "publish");
+    assert!(rt; request.tolerance() == 1_000_000);
+    assert!(rt; request.rate_decimals() == 12);
+    assert!(rt; request.band() == 1000);
+    assert!(rt; request.slip() == 1_000_000);
+    assert!(rt; request.hold().is_none());
+    assert!(rt; request.reject() == 0);
+    assert!(rt; request.text(OptionName::Id).is_none());
+    Ok(())
+}
+
+#[test]
+fn what_is_given_is_used(rt: HostRuntime) -> Result<(), Fail> {
+    let alloc = rt.alloc();
+    let words = [
+        "station",
+        "publish",
+        "--kernel=k",
+        "--obs=o",
+        "--sc=99",
+        "--tol-ns=2",
+        "--rate-decimals=09",
+        "--band-ppm=3",
+        "--slip-ns=0",
+        "--hold=128000",
+        "--id=2024-06-01",
+        "--reject=4",
+    ];
+    let request = match requested(alloc, words.as_slice()) {
+        Ok(request) => request,
+        Err(_) => return Err("refused".into()),
+    };
+    assert!(rt; request.tolerance() == 2);
+    assert!(rt; request.rate_decimals() == 9);
+    assert!(rt; request.band() == 3);
+    assert!(rt; request.slip() == 0);
+    assert!(rt; request.hold() == Some(128_000));
+    assert!(rt; request.reject() == 4);
+    assert!(rt; request.text(OptionName::Id) == Some("2024-06-01"));
+    Ok(())
+}
+
+#[test]
+fn what_the_command_does_not_use_has_its_default(rt: HostRuntime) -> Result<(), Fail> {
+    let alloc = rt.alloc();
+    let words = [
+        "station",
+        "residuals",
+        "--kernel=k",
+        "--obs=o",
+        "--sc=99",
+        "--tol-ns=2",
+        "--hold=3",
+    ];
+    let request = match requested(alloc, words.as_slice()) {
+        Ok(request) => request,
+        Err(_) => return Err("refused".into()),
+    };
+    assert!(rt; request.tolerance() == 1_000_000);
+    assert!(rt; request.hold().is_none());
+    Ok(())
+}

@@ -6,9 +6,9 @@ use Rattle.sk_status.proofs.Behind.{both, joined}
 use Rattle.sk_status.proofs.note.line_for.Goals as goal
 
 pub returns : goal.returns
-returns c = λ told.
+returns c =
     let words : List (List ℕ) = decimal (code_of c.args.status) ∷ status_words c.args.status in
     c.push.ensures
     ∙ ap (λ l. l ++ 10 ∷ [])
-    (both (codes "refused") c.begun-line.result c.push_status.new.line (decimal (code_of c.args.status) ∷ []) (status_words c.args.status) c.begun-line.ensures.words (c.push_status.ensures.words told)
+    (both (codes "refused") c.begun-line.result c.push_status.new.line (decimal (code_of c.args.status) ∷ []) (status_words c.args.status) c.begun-line.ensures.words c.push_status.ensures.words
     ∙ sym (joined (codes "refused") words))

@@ -1,4 +1,4 @@
-use Rattle.std.proofs.Common.{◌≡◌, map, drop, ℕ, List}
+use Rattle.std.proofs.Common.{◌≡◌, map, drop}
 use Rattle.clap.specs.Words.{app_of}
 use Rattle.sk_words.specs.Words.{with_options}
 use Rattle.sk_words.proofs.matched.add_options.Given as goal

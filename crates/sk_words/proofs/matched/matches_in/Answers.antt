@@ -1,10 +1,9 @@
-use Rattle.std.proofs.Common.{rules, ◌≡◌, ◌≢◌, Err, map, true, false, [], List, ℕ, Bool, ap, sym, subst, inl, inr, ◌∙◌, refl, ◌⊎◌}
-use Rattle.clap.specs.Words.{app_of, kind_of, is_simple, is_simple_and_free, fault_of, takes, matches_of, Kinds, HasKind, IsAmong, App, Text}
+use Rattle.std.proofs.Common.{◌≡◌, map, true, false, [], List, Bool, ap, sym, subst, inl, inr, ◌∙◌, refl, ◌⊎◌}
+use Rattle.clap.specs.Words.{app_of, is_simple, is_simple_and_free, fault_of, takes, matches_of, Kinds, IsAmong, App, Text}
 use Rattle.clap.specs.declared.error.kind.ErrorKind.{ErrorKind}
 use Rattle.clap.specs.declared.error.kind.ErrorKind.TheVariants.{OutOfMemory}
-use Rattle.sk_words.specs.declared.matched.MatchStop.{MatchStop}
-use Rattle.sk_words.specs.declared.matched.MatchStop.TheVariants.{NotTaken, NoMemory}
-use Rattle.sk_words.specs.Words.{station, AreMatched, is_taken, faults, matches}
+use Rattle.sk_words.specs.declared.matched.MatchStop.TheVariants.{NotTaken}
+use Rattle.sk_words.specs.Words.{station, is_taken, faults, matches}
 use Rattle.sk_words.proofs.Station.{station_is_simple, station_is_free}
 use Rattle.sk_words.proofs.matched.matches_in.Goals as goal
 

@@ -1,4 +1,4 @@
-use Rattle.std.proofs.Common.{rules, ◌≡◌, ◌≤◌, ◌<◌, ◌&&◌, ◌^◌, ℕ, List, true, false, Bool, length, leb, refl, sym, ap, ◌∙◌, arith, Ok, Err, Result, Some, None, Option, cond, lit<}
+use Rattle.std.proofs.Common.{rules, ◌≡◌, ◌≤◌, ◌&&◌, ℕ, List, true, false, Bool, length, leb, refl, sym, ap, ◌∙◌, arith, Ok, Result, Some, None, cond}
 use Rattle.std.specs.Char.{is_ascii_digit}
 use Rattle.std.specs.List.{list_all}
 use Rattle.std.specs.Result.{result_ok}

@@ -2,7 +2,6 @@ use Rattle.std.proofs.Common.{◌≡◌, Option, Some, None}
 use Rattle.std.specs.Option.{option_map, option_map_or}
 use Rattle.sk_words.specs.declared.tables.Command.{Command}
 use Rattle.sk_words.specs.declared.tables.OptionName.{OptionName}
-use Rattle.sk_words.specs.declared.fault.WordsFault.{WordsFault}
 use Rattle.sk_words.specs.declared.fault.WordsFault.TheVariants.{NotTaken, NeedOption, OutOfRange}
 use Rattle.sk_words.specs.Request.{Options, options_fault, options_of, first_missing, first_out_of_range}
 use Rattle.sk_words.specs.Asked.{rows_in}

@@ -1,4 +1,4 @@
-use Rattle.std.proofs.Common.{◌≡◌, ℕ, ◌<◌, ◌≤◌, arith, Some, None}
+use Rattle.std.proofs.Common.{◌≡◌, ◌≤◌, arith, Some, None}
 use Rattle.std.proofs.lemmas.Option.{none-some}
 use Rattle.sk_words.specs.Asked.{rows_in}
 use Rattle.sk_words.proofs.Numbers.{sc_given}
