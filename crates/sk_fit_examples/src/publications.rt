@@ -212,3 +212,53 @@ fn one_step_above_the_band(rt: HostRuntime) -> Result<(), Fail> {
     );
     Ok(())
 }
+
+#[test]
+fn the_triples_of_a_publication(rt: HostRuntime) -> Result<(), Fail> {
+    let alloc = rt.alloc();
+    let pool = pool(&rt, ONE_PARTITION, "0 0 1")?;
+    let clock = Clock::of(alloc, &pool, 99)?;
+    let old = Triples::of(alloc, &pool, &clock, 99)?;
+    let records =
+        "a,tick:256000,tdt:1000.002,0\nb,tick:512000,tdt:2000.004,0\nc,tick:768000,tdt:3000.010,0\n";
+    let list = observations(alloc, &clock, records)?;
+    let settings = settings(&rt, NINE_DECIMALS);
+    let chain = fit(alloc, &old, &clock, list.as_slice(), &settings)?;
+    let new = chain.triples(alloc, &old)?;
+    let mut text = String::new(alloc);
+    for triple in new.list() {
+        let part = format!(in alloc;
+            "{} {} {};",
+            triple.ticks, triple.time.units, triple.rate.units
+        )?;
+        text.push_str(part.as_str())?;
+    }
+    assert_eq!(rt;
+        text.as_str(),
+        "0 0 1000000000000000000;1 3906250000000000 1000002000000000000;512000 2000003999992188000000 1000006000000000000;"
+    );
+    Ok(())
+}
+
+/// Records of one line: tick 256000 × k at 1000.5 × k s, for k from 1.
+fn steady_records(alloc: Global, count: u32) -> Result<String, Fail> {
+    let mut records = String::new(alloc);
+    for k in 1..=count {
+        let tick = 256_000 * k as u64;
+        let tenths = 10_005 * k as u64;
+        let record = format!(in alloc; "r,tick:{},tdt:{}.{},0\n", tick, tenths / 10, tenths % 10)?;
+        records.push_str(record.as_str())?;
+    }
+    Ok(records)
+}
+
+#[test]
+fn one_line_meets_a_hundred_thousand_observations(rt: HostRuntime) -> Result<(), Fail> {
+    let records = steady_records(rt.alloc(), 100_000)?;
+    let got = answer(&rt, ONE_PARTITION, "0 0 1", DEFAULTS, records.as_str())?;
+    assert_eq!(rt;
+        got.as_str(),
+        "0 | 0 0 1000000000000000000 0-0 Fixed | 1 3906250000000000 1000500000000000000 0-100000 Last"
+    );
+    Ok(())
+}

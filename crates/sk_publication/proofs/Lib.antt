@@ -1,0 +1,3 @@
+pub mod Reduced
+pub mod NewTriples
+pub mod Coefficients
