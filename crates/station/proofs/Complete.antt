@@ -14,11 +14,16 @@ use Rattle.sk_clock.specs.Row.{RowView}
 use Rattle.sk_obs.specs.Words.{word_checks, IsClockWord}
 use Rattle.sk_obs.proofs.Laws.{IsClockWord-one}
 use Rattle.sk_triples.specs.Terms.{TripleView}
+use Rattle.sk_triples.specs.Input.{Input}
 use Rattle.sk_triples.specs.Line.{covering}
 use Rattle.sk_triples.specs.Kernel.{TriplesView, range_checks}
+use Rattle.sk_fit.specs.declared.chain.Chain.{Chain}
+use Rattle.sk_fit.specs.Causes.{Gives, input}
+use Rattle.sk_fit.specs.Given.{new_triples_of}
+use Rattle.sk_fit.proofs.OneAnswer.{one_refusal, gives_unrefused}
 use Rattle.sk_report.specs.Report.{table_checks}
 use Rattle.sk_words.specs.declared.tables.Command.{Command}
-use Rattle.sk_words.specs.declared.tables.Command.TheVariants.{Residuals, Normal, Convert}
+use Rattle.sk_words.specs.declared.tables.Command.TheVariants.{Publish, Residuals, Normal, Convert}
 use Rattle.sk_words.specs.declared.tables.OptionName.TheVariants as opt
 use Rattle.sk_words.specs.Request.{Options, text_or, files_of, over_names}
 use Rattle.sk_words.specs.Asked.{Request, WordsAsk}
@@ -34,14 +39,16 @@ use Rattle.sk_status.specs.Written.{Written}
 use Rattle.station.specs.Stage.{Stage, ◌>>=◌, gives, some, IsDetermined}
 use Rattle.station.specs.Files as files
 use Rattle.station.specs.Files.{Source, KernelRead, reads, judged, document, refused_by, too_long, file_limit, sc_of, leap_named, leap_file, leap_meaning, leap_pool, leap_table, kernel_document, kernel_meaning, kernel_file, kernel_pool, kernel_clock, kernel_triples, observation_file, observed}
-use Rattle.station.specs.Output.{plain_table, tick_fields, time_by, line_of}
+use Rattle.station.specs.Publishing.{after_chain, after_rows}
+use Rattle.station.specs.Output.{settings_of, plain_table, new_kernel, tick_fields, time_by, line_of}
 use Rattle.station.specs.Time.{IsUtcWord}
-use Rattle.station.specs.Outcome.{requested, outcome, outcome_of, residuals, normal, convert, converted, covered, clock_tick, TickOf, tabled, all_covered, status_of_report}
+use Rattle.station.specs.Outcome.{requested, outcome, outcome_of, publish, chain_of, residuals, normal, convert, converted, covered, clock_tick, TickOf, tabled, all_covered, status_of_report}
 use Rattle.station.specs.Ending.{Ends, status_of, EndsOrMemory}
 use Rattle.station.proofs.Determined.{then_determined, judged_determined, gives_determined, judges_one}
 use Rattle.station.proofs.OneAnswer.{doc_one, pool_one, leap_one, clock_one, triples_one, range_single, table_single, words_one}
 use Rattle.station.proofs.OneRecord.{observations_one, word_single}
-use Rattle.station.proofs.Tails.{after_leap, after_kernel, after_observations, after_lines, after_clock}
+use Rattle.station.proofs.NewTriples.{one_addition}
+use Rattle.station.proofs.Tails.{publish_after_leap, publish_after_kernel, after_leap, after_kernel, after_observations, after_lines, after_clock}
 use Rattle.station.proofs.Moves.{Moves, reads_moves, document_moves}
 
 -- ---- files
@@ -108,11 +115,15 @@ observations_determined source options clock leap calm known =
     then_determined (reads source Observations (text_or opt.Obs options)) (λ bytes. observed bytes clock leap) (reads_determined source Observations (text_or opt.Obs options) calm known)
     (λ bytes. judged_determined (files.ObservationsOf bytes clock leap) (λ f. ObservationRefused (obs_stop.Record f)) (observations_one bytes clock leap))
 
+all_covered_determined : (triples : TriplesView) (rows : List RowView) → IsDetermined (all_covered triples rows)
+all_covered_determined triples rows =
+    judged_determined (Judges (table_checks triples rows) (λ (covered : Unit {0}). Unit {0})) status_of_report
+    (judges_one (table_checks triples rows) (λ (covered : Unit {0}). Unit {0}) (table_single triples rows) (λ x y h k. refl))
+
 tabled_determined : (kernel : KernelRead) (rows : List RowView) → IsDetermined (tabled kernel rows)
 tabled_determined kernel rows =
     then_determined (all_covered kernel.triples rows) (λ covers. gives (plain_table kernel rows))
-    (judged_determined (Judges (table_checks kernel.triples rows) (λ (covered : Unit {0}). Unit {0})) status_of_report
-    (judges_one (table_checks kernel.triples rows) (λ (covered : Unit {0}). Unit {0}) (table_single kernel.triples rows) (λ x y h k. refl)))
+    (all_covered_determined kernel.triples rows)
     (λ covers. gives_determined (plain_table kernel rows))
 
 -- the files that the command reads are known
@@ -158,6 +169,52 @@ then_decided {A} first next f n (Err s) (Err u) (inr p) (inr q) =
     let e : ◌≡◌ {A = Result A Status} (Ok p.0) (Ok q.0) = f (Ok p.0) (Ok q.0) p.1 q.1 in
     let same : p.0 ≡ q.0 = cc in
     n q.0 (Err s) (Err u) (subst (λ (a : A). next a (Err s)) same p.2) q.2
+
+abbrev with_new : KernelRead → List TripleView → TriplesView
+with_new kernel new = record { triples = kernel.triples.triples ++ new; per_count = kernel.triples.per_count; total = kernel.triples.total }
+
+-- two chains with the same new triples end the run alike
+chain_decided : (options : Options) (kernel : KernelRead) (rows : List RowView) (c d : Chain) → new_triples_of c ≡ new_triples_of d → (a b : Result (List ℕ) Status)
+    → after_chain options kernel rows c a → after_chain options kernel rows d b → status_of a ≡ status_of b
+chain_decided options kernel rows c d same a b h k = alike a b h k
+  where
+    one : (q r : Result (Unit {0}) Status) → all_covered (new_kernel kernel c) rows q → all_covered (new_kernel kernel d) rows r → q ≡ r
+    one q r p u =
+        all_covered_determined (new_kernel kernel d) rows q r (subst (λ (new : List TripleView). all_covered (with_new kernel new) rows q) same p) u
+
+    alike : (a b : Result (List ℕ) Status) → after_chain options kernel rows c a → after_chain options kernel rows d b → status_of a ≡ status_of b
+    alike (Ok x) (Ok y) p q = refl
+    alike (Ok x) (Err s) p (inl q) = let e = one (Ok p.0) (Err s) p.1 q in cc
+    alike (Ok x) (Err s) p (inr q) = let e = q.2 in cc
+    alike (Err s) (Ok y) (inl p) q = let e = one (Err s) (Ok q.0) p q.1 in cc
+    alike (Err s) (Ok y) (inr p) q = let e = p.2 in cc
+    alike (Err s) (Err u) (inl p) (inl q) = let e = one (Err s) (Err u) p q in cc
+    alike (Err s) (Err u) (inl p) (inr q) = let e = q.2 in cc
+    alike (Err s) (Err u) (inr p) q = let e = p.2 in cc
+
+abbrev input_of : Options → KernelRead → List RowView → Input
+input_of options kernel rows = input kernel.triples kernel.clock rows (settings_of options)
+
+rows_decided : (options : Options) (kernel : KernelRead) (rows : List RowView) → IsDecided (after_rows options kernel rows)
+rows_decided options kernel rows a b h k = alike a b h k
+  where
+    alike : (a b : Result (List ℕ) Status) → after_rows options kernel rows a → after_rows options kernel rows b → status_of a ≡ status_of b
+    alike (Ok x) (Ok y) p q = refl
+    alike (Ok x) (Err s) p (inl q) = absurd (gives_unrefused (input_of options kernel rows) rows p.0 q.0 p.1 q.1)
+    alike (Ok x) (Err s) p (inr q) = chain_decided options kernel rows p.0 q.0 (one_addition (input_of options kernel rows) p.0 q.0 p.1 q.1) (Ok x) (Err s) p.2 q.2
+    alike (Err s) (Ok y) (inl p) q = absurd (gives_unrefused (input_of options kernel rows) rows q.0 p.0 q.1 p.1)
+    alike (Err s) (Ok y) (inr p) q = chain_decided options kernel rows p.0 q.0 (one_addition (input_of options kernel rows) p.0 q.0 p.1 q.1) (Err s) (Ok y) p.2 q.2
+    alike (Err s) (Err u) (inl p) (inl q) = p.2 ∙ ap NotPublished (one_refusal (input_of options kernel rows) rows p.0 q.0 p.1 q.1) ∙ sym q.2
+    alike (Err s) (Err u) (inl p) (inr q) = absurd (gives_unrefused (input_of options kernel rows) rows q.0 p.0 q.1 p.1)
+    alike (Err s) (Err u) (inr p) (inl q) = absurd (gives_unrefused (input_of options kernel rows) rows p.0 q.0 p.1 q.1)
+    alike (Err s) (Err u) (inr p) (inr q) = chain_decided options kernel rows p.0 q.0 (one_addition (input_of options kernel rows) p.0 q.0 p.1 q.1) (Err s) (Err u) p.2 q.2
+
+publish_decided : (source : Source) (options : Options) → IsCalm source → AreKnown source options → IsDecided (publish source options)
+publish_decided source options calm known =
+    then_decided (leap_file source options) (publish_after_leap source options) (leap_determined source (options opt.Leap) calm known.leap)
+    (λ leap. then_decided (kernel_file source options) (publish_after_kernel source options leap) (kernel_file_determined source options calm known.kernel)
+    (λ kernel. then_decided (observation_file source options kernel.clock leap) (after_rows options kernel) (observations_determined source options kernel.clock leap calm known.observations)
+    (λ rows. rows_decided options kernel rows)))
 
 -- a word with a property, and a text with it in
 shown_decided : (P : List ℕ → Type 0) (text : List ℕ → List ℕ) → IsDecided (some P >>= (λ word. gives (text word)))
@@ -231,13 +288,18 @@ have_bytes source options h =
       observations = one_known P (options opt.Obs) (others_known P (leap ++ kernel) observations three);
     }
 
+-- the files of a command that needs a clock kernel and observations
+files_known : (source : Source) (options : Options) → AreNamed Residuals options → HaveBytes source options → AreKnown source options
+files_known source options named known = record {
+  leap = known.leap;
+  kernel = named_known (λ name. IsSome (source.holds name)) (options opt.Kernel) named.0 known.kernel;
+  observations = named_known (λ name. IsSome (source.holds name)) (options opt.Obs) named.1 known.observations;
+}
+
 command_decided : (command : Command) (source : Source) (options : Options) → IsCalm source → AreNamed command options → HaveBytes source options → IsDecided (outcome_of command source options)
+command_decided Publish source options calm named known = publish_decided source options calm (files_known source options named known)
 command_decided Residuals source options calm named known =
-    determined_decided (residuals source options) (residuals_determined source options calm record {
-      leap = known.leap;
-      kernel = named_known (λ name. IsSome (source.holds name)) (options opt.Kernel) named.0 known.kernel;
-      observations = named_known (λ name. IsSome (source.holds name)) (options opt.Obs) named.1 known.observations;
-    })
+    determined_decided (residuals source options) (residuals_determined source options calm (files_known source options named known))
 command_decided Normal source options calm named known =
     determined_decided (normal source options) (normal_determined source options calm (named_known (λ name. IsSome (source.holds name)) (options opt.Kernel) named known.kernel))
 command_decided Convert source options calm named known =
@@ -260,24 +322,41 @@ leap_moved s u m (Some name) r h =
 kernel_moved : (s u : Source) → Moves s u → (options : Options) (r : Result DocView Status) → kernel_document s options r → kernel_document u options r
 kernel_moved s u m options r h = document_moves s u m Kernel (text_or opt.Kernel options) (refused_by Kernel) r h
 
+kernel_file_moved : (s u : Source) → Moves s u → (options : Options) (r : Result KernelRead Status) → kernel_file s options r → kernel_file u options r
+kernel_file_moved s u m options r h =
+    then_moved (kernel_document s options) (kernel_document u options) (kernel_meaning (sc_of options)) (kernel_meaning (sc_of options)) (kernel_moved s u m options) (λ doc q k. k) r h
+
+observations_moved : (s u : Source) → Moves s u → (options : Options) (clock : ClockView) (leap : List LeapPair) (r : Result (List RowView) Status)
+    → observation_file s options clock leap r → observation_file u options clock leap r
+observations_moved s u m options clock leap r h =
+    then_moved (reads s Observations (text_or opt.Obs options)) (reads u Observations (text_or opt.Obs options)) (λ bytes. observed bytes clock leap) (λ bytes. observed bytes clock leap)
+    (reads_moves s u m Observations (text_or opt.Obs options)) (λ bytes q k. k) r h
+
+publish_moved : (s u : Source) → Moves s u → (options : Options) (r : Result (List ℕ) Status) → publish s options r → publish u options r
+publish_moved s u m options r h =
+    then_moved (leap_file s options) (leap_file u options) (publish_after_leap s options) (publish_after_leap u options) (leap_moved s u m (options opt.Leap))
+    (λ leap. then_moved (kernel_file s options) (kernel_file u options) (publish_after_kernel s options leap) (publish_after_kernel u options leap) (kernel_file_moved s u m options)
+    (λ kernel. then_moved (observation_file s options kernel.clock leap) (observation_file u options kernel.clock leap) (after_rows options kernel) (after_rows options kernel)
+    (observations_moved s u m options kernel.clock leap)
+    (λ rows q k. k))) r h
+
 residuals_moved : (s u : Source) → Moves s u → (options : Options) (r : Result (List ℕ) Status) → residuals s options r → residuals u options r
 residuals_moved s u m options r h =
     then_moved (leap_file s options) (leap_file u options) (after_leap s options) (after_leap u options) (leap_moved s u m (options opt.Leap))
-    (λ leap. then_moved (kernel_file s options) (kernel_file u options) (after_kernel s options leap) (after_kernel u options leap)
-    (then_moved (kernel_document s options) (kernel_document u options) (kernel_meaning (sc_of options)) (kernel_meaning (sc_of options)) (kernel_moved s u m options) (λ doc q k. k))
+    (λ leap. then_moved (kernel_file s options) (kernel_file u options) (after_kernel s options leap) (after_kernel u options leap) (kernel_file_moved s u m options)
     (λ kernel. then_moved (observation_file s options kernel.clock leap) (observation_file u options kernel.clock leap) (after_observations kernel) (after_observations kernel)
-    (then_moved (reads s Observations (text_or opt.Obs options)) (reads u Observations (text_or opt.Obs options)) (λ bytes. observed bytes kernel.clock leap) (λ bytes. observed bytes kernel.clock leap)
-    (reads_moves s u m Observations (text_or opt.Obs options)) (λ bytes q k. k))
+    (observations_moved s u m options kernel.clock leap)
     (λ rows q k. k))) r h
 
 command_moved : (command : Command) (s u : Source) → Moves s u → (options : Options) (r : Result (List ℕ) Status) → outcome_of command s options r → outcome_of command u options r
+command_moved Publish s u m options r h = publish_moved s u m options r h
 command_moved Residuals s u m options r h = residuals_moved s u m options r h
 command_moved Normal s u m options r h =
     then_moved (kernel_document s options) (kernel_document u options) (λ doc. gives (canonical_text doc)) (λ doc. gives (canonical_text doc)) (kernel_moved s u m options) (λ doc q k. k) r h
 command_moved Convert s u m options r h =
     then_moved (leap_file s options) (leap_file u options) (λ leap. kernel_file s options >>= after_clock options leap) (λ leap. kernel_file u options >>= after_clock options leap) (leap_moved s u m (options opt.Leap))
     (λ leap. then_moved (kernel_file s options) (kernel_file u options) (after_clock options leap) (after_clock options leap)
-    (then_moved (kernel_document s options) (kernel_document u options) (kernel_meaning (sc_of options)) (kernel_meaning (sc_of options)) (kernel_moved s u m options) (λ doc q k. k))
+    (kernel_file_moved s u m options)
     (λ kernel q k. k)) r h
 
 outcome_moved : (words : List (List ℕ)) (s u : Source) → Moves s u → (r : Result (List ℕ) Status) → outcome words s r → outcome words u r

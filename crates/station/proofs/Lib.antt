@@ -8,3 +8,8 @@ pub mod Tails
 pub mod Refusals
 pub mod Opened
 pub mod Converted
+pub mod NewTriples
+pub mod Additions
+pub mod Reread
+pub mod NewJoins
+pub mod NewTimes

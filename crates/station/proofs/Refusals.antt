@@ -4,7 +4,7 @@ use Rattle.std.specs.Prelude.{codes, unwrap_or, IsSomeAnd}
 use Rattle.sk_status.specs.declared.status.Status.{Status}
 use Rattle.sk_status.specs.declared.status.Status.TheVariants.{Done, WordsRefused, LeapRefused, KernelRefused, ObservationRefused, NotPublished, ReadFault, WriteFault, NoMemory, TimeRefused, AuditNo, NewRefused, ExcerptRefused, OverRefused}
 use Rattle.sk_words.specs.declared.tables.Command.{Command}
-use Rattle.sk_words.specs.declared.tables.Command.TheVariants.{Residuals, Normal, Convert}
+use Rattle.sk_words.specs.declared.tables.Command.TheVariants.{Publish, Residuals, Normal, Convert}
 use Rattle.sk_status.specs.declared.status.FileKind.{FileKind}
 use Rattle.sk_status.specs.declared.status.FileKind.TheVariants.{Leap, Kernel, Observations, New, Over}
 use Rattle.sk_words.specs.declared.tables.OptionName.TheVariants as opt
@@ -36,6 +36,11 @@ use Rattle.sk_obs.specs.declared.fault.ObsFault.{ObsFault}
 use Rattle.sk_obs.specs.declared.fault.ObsFault.TheVariants.{BadDelay, TimeRange, OutOfOrder}
 use Rattle.sk_obs.specs.File.{records_of, file_checks, record_checks, own_checks, time_of, delay_of, IsDelay, IsObserved, IsNotAbove}
 use Rattle.sk_obs.specs.Words.{TimeWord, TdtNumber, UtcCode, CucHex, CdsHex, OtherWord, time_word, time_checks}
+use Rattle.sk_triples.specs.Terms.{sights}
+use Rattle.sk_fit.specs.declared.chain.Chain.{Chain}
+use Rattle.sk_fit.specs.declared.fault.FitFault.{FitFault}
+use Rattle.sk_fit.specs.declared.fault.FitFault.TheVariants as fit
+use Rattle.sk_fit.specs.Causes.{Fits, input}
 use Rattle.sk_report.specs.Report.{table_checks}
 use Rattle.sk_report.specs.declared.fault.ReportFault.{ReportFault}
 use Rattle.sk_report.specs.declared.fault.ReportFault.TheVariants as report_fault
@@ -44,19 +49,19 @@ use Rattle.sk_words.specs.Asked.{WordsAsk}
 use Rattle.sk_words.specs.Request.{Options, text_or}
 use Rattle.station.specs.Files as files
 use Rattle.station.specs.Files.{Source, KernelRead, reads, judged, refused_by, too_long, sc_of}
-use Rattle.station.specs.Outcome.{requested, outcome, outcome_of, residuals, normal, convert, converted, clock_tick, TickOf, covered, tabled, all_covered, status_of_report}
-use Rattle.station.specs.Output.{plain_table, tick_fields, time_by, line_of}
+use Rattle.station.specs.Outcome.{requested, outcome, outcome_of, publish, chain_of, residuals, normal, convert, converted, clock_tick, TickOf, covered, tabled, all_covered, status_of_report}
+use Rattle.station.specs.Publishing.{after_chain, after_rows}
+use Rattle.station.specs.Output.{settings_of, plain_table, new_kernel, published_doc, tick_fields, time_by, line_of}
 use Rattle.station.specs.Time.{IsUtcWord}
-use Rattle.station.proofs.Tails.{after_leap, after_kernel, after_observations, after_lines, after_clock}
+use Rattle.station.proofs.Tails.{publish_after_leap, publish_after_kernel, after_leap, after_kernel, after_observations, after_lines, after_clock}
 use Rattle.station.specs.Ending.{Ends}
 use Rattle.sk_status.specs.Written.{Written, IsUntouched}
-use Rattle.sk_status.specs.Notes.{IsToldExactly, CarriesNoMemory}
+use Rattle.sk_status.specs.Notes.{CarriesNoMemory}
 
--- the end of a run that wrote, or that has no publication
+-- the end of a run that wrote
 abbrev Wrote : Status → Type 0
 Wrote Done = Unit {0}
 Wrote WriteFault = Unit {0}
-Wrote (NotPublished fault) = Unit {0}
 Wrote status = ⊥
 
 -- the end of a run that was refused: nothing was written, and want of memory is not the reason
@@ -220,11 +225,34 @@ report_stands triples rows fault h =
     said_of Q (table_checks triples rows) fault
     (say_each Q None 0 (λ before n row. carried (FirstRefuses (range_checks triples row.tick)) (report_fault.Range row.number) ∷ []) rows (λ before n row. (λ inner. standing, tt))) h
 
+always_all_covered : (triples : TriplesView) (rows : List RowView) → Always (all_covered triples rows)
+always_all_covered triples rows =
+    always_judged (Judges (table_checks triples rows) (λ (covered : Unit {0}). Unit {0})) status_of_report (report_stands triples rows)
+
 always_tabled : (kernel : KernelRead) (rows : List RowView) → Always (tabled kernel rows)
 always_tabled kernel rows =
     always_then (all_covered kernel.triples rows) (λ covers. gives (plain_table kernel rows))
-    (always_judged (Judges (table_checks kernel.triples rows) (λ (covered : Unit {0}). Unit {0})) status_of_report (report_stands kernel.triples rows))
+    (always_all_covered kernel.triples rows)
     (λ covers. always_gives (plain_table kernel rows))
+
+fit_stands : (options : Options) (kernel : KernelRead) (rows : List RowView) (fault : FitFault)
+    → Fits (input kernel.triples kernel.clock rows (settings_of options)) rows (Err fault) → Stands (NotPublished fault)
+fit_stands options kernel rows fit.NoMemory h = absurd h
+fit_stands options kernel rows _ h = standing
+
+always_after_rows : (options : Options) (kernel : KernelRead) (rows : List RowView) → Always (after_rows options kernel rows)
+always_after_rows options kernel rows =
+    always_then (chain_of options kernel rows) (after_chain options kernel rows)
+    (always_judged (Fits (input kernel.triples kernel.clock rows (settings_of options)) rows) NotPublished (fit_stands options kernel rows))
+    (λ chain. always_then (all_covered (new_kernel kernel chain) rows) (λ covers. gives (canonical_text (published_doc options kernel rows chain)))
+    (always_all_covered (new_kernel kernel chain) rows) (λ covers. always_gives (canonical_text (published_doc options kernel rows chain))))
+
+always_publish : (source : Source) (options : Options) → Always (publish source options)
+always_publish source options =
+    always_then (files.leap_file source options) (publish_after_leap source options) (always_leap_named source (options opt.Leap))
+    (λ leap. always_then (files.kernel_file source options) (publish_after_kernel source options leap) (always_kernel source options)
+    (λ kernel. always_then (files.observation_file source options kernel.clock leap) (after_rows options kernel) (always_observations source options kernel.clock leap)
+    (λ rows. always_after_rows options kernel rows)))
 
 always_residuals : (source : Source) (options : Options) → Always (residuals source options)
 always_residuals source options =
@@ -256,6 +284,7 @@ always_convert source options =
     (always_converted leap kernel)))
 
 always_command : (command : Command) (source : Source) (options : Options) → Always (outcome_of command source options)
+always_command Publish source options = always_publish source options
 always_command Residuals source options = always_residuals source options
 always_command Normal source options = always_normal source options
 always_command Convert source options = always_convert source options
@@ -273,13 +302,6 @@ ends_refused view words source out Done h u = absurd ((always_outcome words sour
 ends_refused view words source out WriteFault h u = absurd ((always_outcome words source WriteFault h).0 tt)
 ends_refused view words source out NoMemory h u = u
 ends_refused view words source out _ h u = (h, u)
-
--- no command that is built publishes
-pub told_exactly : {X : Type 0} (view : X → List ℕ) (words : List (List ℕ)) (source : Source) (status : Status)
-    → MayAnswer view (outcome words source) (Err status) → IsToldExactly status
-told_exactly view words source (NotPublished fault) h = absurd ((always_outcome words source (NotPublished fault) h).0 tt)
-told_exactly view words source NoMemory h = tt
-told_exactly view words source _ h = tt
 
 pub no_memory_carried : {X : Type 0} (view : X → List ℕ) (words : List (List ℕ)) (source : Source) (status : Status)
     → MayAnswer view (outcome words source) (Err status) → CarriesNoMemory status

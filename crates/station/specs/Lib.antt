@@ -6,3 +6,4 @@ pub mod Sample
 pub mod Outcome
 pub mod Ending
 pub mod Headline
+pub mod Publishing

@@ -28,7 +28,7 @@ use Rattle.sk_excerpt.specs.Excerpt as ex
 use Rattle.sk_least.specs.declared.stretch.Stretch.{Stretch}
 use Rattle.sk_least.specs.Answer as cover
 use Rattle.sk_words.specs.declared.tables.Command.{Command}
-use Rattle.sk_words.specs.declared.tables.Command.TheVariants.{Residuals, Normal, Convert}
+use Rattle.sk_words.specs.declared.tables.Command.TheVariants.{Publish, Residuals, Normal, Convert}
 use Rattle.sk_status.specs.declared.status.Status.{Status}
 use Rattle.sk_status.specs.declared.status.Status.TheVariants.{WordsRefused, ObservationRefused, NotPublished, TimeRefused, AuditNo, NewRefused, ExcerptRefused, OverRefused, NoMemory}
 use Rattle.sk_status.specs.declared.status.FileKind.TheVariants.{New, Over}
@@ -205,6 +205,7 @@ least source options = do
 -- ---- the whole
 
 abbrev pub outcome_of : Command → Source → Options → Stage (List ℕ)
+outcome_of Publish = publish
 outcome_of Residuals = residuals
 outcome_of Normal = normal
 outcome_of Convert = convert

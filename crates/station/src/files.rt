@@ -1,7 +1,9 @@
 //! The files that a command names.
-ghost use Rattle.std.specs.Prelude.{◌≡◌, List, ℕ, Some};
+ghost use Rattle.std.specs.Prelude.{◌≡◌, List, ℕ, Some, IfOk};
 ghost use Rattle.sk_edge.specs.Causes.{Rose, NoneFalls};
 ghost use Rattle.sk_edge.specs.Transfer.{SameFiles};
+ghost use Rattle.sk_clock.specs.Clock.{total};
+ghost use Rattle.sk_clock.specs.Row.{AreRows};
 ghost use Rattle.station.specs.Stage.{MayAnswer};
 ghost use Rattle.sk_words.specs.Asked.{options_in, NeedsNumber};
 ghost use Rattle.station.specs.Files.{Source, leap_named as named_stage, leap_file as leap_stage, kernel_document as document_stage, kernel_file as kernel_stage, observation_file as observation_stage, HasFew};
@@ -90,6 +92,7 @@ pub fn observation_file<D: Depot>(
       rose = λ name. Rose (D.faults depot.old name) (D.faults depot.new name);
     } in
         MayAnswer (λ o. o) (observation_stage source (options_in request.now) kernel.now.clock leap.now) result }
+    ensures rows { IfOk result (AreRows (total kernel.now.clock)) }
 {
     let name = request.text_or_empty(OptionName::Obs);
     let bytes = read_file(alloc, depot, FileKind::Observations, name)?;

