@@ -26,7 +26,7 @@ use sk_clock::Clock;
 use sk_decimal::Fixed;
 use sk_edge::Depot;
 use sk_fit::{Chain, FitFault, Settings, fit};
-use sk_grammar::{Bytes, Doc, List};
+use sk_grammar::{Doc, Lines};
 use sk_obs::Observation;
 use sk_publication::published_doc;
 use sk_report::{ReportFault, table};
@@ -88,7 +88,7 @@ fn new_table(
     clock: &Clock,
     observations: &[Observation],
     chain: &Chain,
-) -> Result<List<Bytes>, Status>
+) -> Result<Lines, Status>
     requires triples { AreOf clock.now triples.now }
     requires chain { IsChainOver (length observations.now) chain.now }
     ensures covered { MayAnswer (λ _. tt) (all_covered triples.now observations.now) result }
@@ -120,7 +120,7 @@ fn text_with(
     request: &Request,
     doc: Doc,
     new_triples: &[Triple],
-    table: List<Bytes>,
+    table: Lines,
 ) -> Result<Vec<u8>, NoMemory>
     requires number { NeedsNumber request.now.command }
     requires triples { All HasNumbers new_triples.now }

@@ -8,7 +8,7 @@ use Rattle.sk_triples.specs.Table.{kernel_view, row_line, row_lines_from, kind_t
 use Rattle.sk_report.specs.Report.{table_checks}
 use Rattle.sk_report.specs.Line.{fields_of, IsLined}
 use Rattle.sk_report.proofs.RowLines.{checks_more, checks_refused, split_at, take_next, lines_more}
-use Rattle.sk_report.proofs.listing.push_rows.Goals as goal
+use Rattle.sk_report.proofs.listing.with_rows.Goals as goal
 
 pub loop-place-init : goal.loop-place-init
 loop-place-init c = (λ chain tells. (tt, sym (append-nil c.args.lines.now)), All-nil (IsLined c.args.clock.now))
