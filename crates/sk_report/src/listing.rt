@@ -67,9 +67,9 @@ fn write_row(
     Ok(())
 }
 
-// The lines, and those of the observations behind them.
+// The lines of the head, and those of the observations behind them.
 fn with_rows(
-    lines: Lines,
+    head: Lines,
     alloc: Global,
     triples: &Triples,
     clock: &Clock,
@@ -80,10 +80,10 @@ fn with_rows(
     requires marks { AreOver (length observations.now) marks.now }
     ensures rows { (chain : Option ChainView) → ((place : ℕ) → place < length observations.now → Tells observations.now chain marks.now place)
         → JudgesUnless ReportFault.NoMemory (table_checks triples.now observations.now)
-        (λ all. all ≡ lines ++ row_lines_from (kernel_view 12 clock.now triples.now.triples) chain observations.now 0 observations.now) result }
+        (λ lines. lines ≡ head ++ row_lines_from (kernel_view 12 clock.now triples.now.triples) chain observations.now 0 observations.now) result }
     ensures known { IfOk result (λ _. All (IsLined clock.now) observations.now) }
 {
-    let mut lines = lines;
+    let mut lines = head;
     // One line at a time stands here, so that its room is taken once.
     let mut line = Vec::new(alloc);
     for (place, observation) in observations.iter().enumerate() {
