@@ -1,6 +1,6 @@
 -- No line of the table has a line feed in it.
-use Rattle.std.proofs.Common.{◌≡◌, ℕ, Bool, true, false, cond, ◌||◌, List, [], ◌∷◌, ◌++◌, codes, Option, None, Some, refl, ap, ◌∙◌, arith}
-use Rattle.std.specs.Prelude.{nat_le, decimal, slice_index_or}
+use Rattle.std.proofs.Common.{◌≡◌, ℕ, Bool, false, ◌||◌, List, [], ◌∷◌, ◌++◌, Option, None, Some, refl, ap, ◌∙◌, arith}
+use Rattle.std.specs.Prelude.{nat_le, slice_index_or}
 use Rattle.std.specs.List.{list_any, AllByRecursion, join_with_byte}
 use Rattle.std.proofs.lemmas.List.Folds.{list_any-append}
 use Rattle.sk_decimal.specs.Fixed.{fixed_text}
@@ -43,6 +43,13 @@ row_one_line clock triples rows row m place ended known =
     let kind = kind_word m place in
     let words = kind ∷ end_words rows ended ∷ [] in
     let kind_is : IsOneLine kind = is_one_line 137 kind (word_plain (slice_index_or m.dropped.items place false) (nat_le m.first_new place)) in
-    joined (row.id ∷ clock_text clock row.tick ∷ fixed_text 12 row.time ∷ (time_fields (kernel_view 12 clock triples) row (covering triples row.tick) ++ words))
-    (is_one_line 32 row.id (id_plain row.id known.1), (is_one_line 715 _ (text_plain clock _ _ known.0), (is_one_line 130 _ (fixed 12 row.time (omega arith)),
-    times_then clock triples row (covering triples row.tick) words (kind_is, (end_one_line rows ended, tt)))))
+    joined (row.id ∷ clock_text clock row.tick ∷ fixed_text 12 row.time ∷ (time_fields (kernel_view 12 clock triples) row (covering triples row.tick) ++ words)) (
+      is_one_line 32 row.id (id_plain row.id known.1),
+      (
+        is_one_line 715 _ (text_plain clock _ _ known.0),
+        (
+          is_one_line 130 _ (fixed 12 row.time (omega arith)),
+          times_then clock triples row (covering triples row.tick) words (kind_is, (end_one_line rows ended, tt)),
+        ),
+      ),
+    )
