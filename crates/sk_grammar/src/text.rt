@@ -63,4 +63,11 @@ impl Lines {
     {
         self.text.as_slice()
     }
+    /// The lines, each with a line feed behind it, as the text that held them.
+    pub fn into_text(self) -> Vec<u8>
+        ensures { result.items ≡ ended_by_line_feeds self }
+    {
+        let Lines { text } = self;
+        text
+    }
 }
