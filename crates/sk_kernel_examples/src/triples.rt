@@ -1,11 +1,11 @@
-ghost use Rattle.std.specs.Prelude.{◌^◌, ◌<◌, length, IsTrue};
-ghost use Rattle.sk_grammar.specs.Variables.{items_of};
+//! Triples of kernels, and times by them.
 
-use crate::{Fall, Triples, TriplesFault};
+ghost use Rattle.std.specs.Prelude.{◌^◌, ◌<◌, length, IsTrue};
+
+use crate::documents::pool_of;
 use sk_clock::Clock;
 use sk_decimal::Fixed;
-use sk_grammar::{Doc, read_doc};
-use sk_pool::Pool;
+use sk_triples::{Fall, Triples, TriplesFault};
 use std::alloc::Global;
 use std::process::Abort;
 use std::test::Fail;
@@ -44,22 +44,6 @@ SCLK01_OUTPUT_DELIM_99 = 2
 SCLK_PARTITION_START_99 = 0
 SCLK_PARTITION_END_99 = 9007199254740991
 ";
-
-fn has_few_items(doc: &Doc) -> bool
-    ensures { IsTrue result → length (items_of doc.now) < 2 ^ 32 }
-{
-    match doc.blocks.as_slice() {
-        [block] => block.items.as_slice().len() < 1000,
-        _ => false,
-    }
-}
-
-fn pool_of(rt: &(impl Abort + AllocGlobal), text: &[u8]) -> Result<Pool, Fail> {
-    assert!(rt; text.len() < 4_000_000);
-    let doc = read_doc(rt.alloc(), text)?;
-    assert!(rt; has_few_items(&doc));
-    Ok(Pool::of(rt.alloc(), &doc)?)
-}
 
 // The triples of a clock's lines and these data.
 fn read(

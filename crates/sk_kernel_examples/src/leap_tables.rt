@@ -1,23 +1,17 @@
-ghost use Rattle.std.specs.Prelude.{◌^◌, ◌<◌, ◌↔◌, length, All, IsTrue, IfOk};
-ghost use Rattle.sk_grammar.specs.Variables.{items_of, IsCounted};
+//! Leap tables of kernels, and UTC by them.
 
-use crate::{LeapFault, LeapTable, Utc, UtcFault, UtcTextFault, print_utc, read_utc};
+ghost use Rattle.std.specs.Prelude.{◌^◌, ◌<◌, ◌↔◌, length, All, IsTrue, IfOk};
+ghost use Rattle.sk_grammar.specs.Variables.{IsCounted};
+
+use crate::documents::pool_of;
 use sk_decimal::Fixed;
-use sk_grammar::{Doc, List, Value, read_doc};
+use sk_grammar::{List, Value};
+use sk_leap::{LeapFault, LeapTable, Utc, UtcFault, UtcTextFault, print_utc, read_utc};
 use sk_pool::Pool;
 use std::process::Abort;
 use std::test::Fail;
 
 // ---- tables of kernels
-
-fn has_few_items(doc: &Doc) -> bool
-    ensures { IsTrue result → length (items_of doc.now) < 2 ^ 32 }
-{
-    match doc.blocks.as_slice() {
-        [block] => block.items.as_slice().len() < 1000,
-        _ => false,
-    }
-}
 
 fn are_short(lists: &[List<Value>]) -> bool
     ensures { IsTrue result ↔ All (λ values. length values < 1000) lists.now }
@@ -32,14 +26,11 @@ fn has_few_values(pool: &Pool) -> bool
 }
 
 // The variables that these lines of data assign.
-fn pool_of(rt: &(impl Abort + AllocGlobal), lines: &str) -> Result<Pool, Fail>
+fn data_pool(rt: &(impl Abort + AllocGlobal), lines: &str) -> Result<Pool, Fail>
     ensures { IfOk result IsCounted }
 {
     let text = format!(in rt.alloc(); "\\begindata\n{lines}")?;
-    assert!(rt; text.len() < 2000);
-    let doc = read_doc(rt.alloc(), text.as_bytes())?;
-    assert!(rt; has_few_items(&doc));
-    let pool = Pool::of(rt.alloc(), &doc)?;
+    let pool = pool_of(rt, text.as_bytes())?;
     assert!(rt; has_few_values(&pool));
     Ok(pool)
 }
@@ -48,7 +39,7 @@ fn table_of(
     rt: &(impl Abort + AllocGlobal),
     lines: &str,
 ) -> Result<Result<LeapTable, LeapFault>, Fail> {
-    let pool = pool_of(rt, lines)?;
+    let pool = data_pool(rt, lines)?;
     Ok(LeapTable::of(rt.alloc(), &pool))
 }
 

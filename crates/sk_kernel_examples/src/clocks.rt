@@ -1,11 +1,11 @@
+//! Clocks of kernels, and their readings.
+
 ghost use Rattle.std.specs.Prelude.{◌^◌, ◌<◌, ◌≤◌, length, IsTrue, IfOk};
 ghost use Rattle.std.specs.Int.{IsInRange};
-ghost use Rattle.sk_grammar.specs.Variables.{items_of};
 
-use crate::{Clock, ClockFault, ClockKernelFault};
+use crate::documents::pool_of;
+use sk_clock::{Clock, ClockFault, ClockKernelFault};
 use sk_cuc::AnyCuc;
-use sk_grammar::{Doc, read_doc};
-use sk_pool::Pool;
 use std::process::Abort;
 use std::test::Fail;
 
@@ -26,15 +26,6 @@ const LINES: [&str; 8] = [
 const TWO_PARTITIONS: &str = "SCLK_PARTITION_START_99 = ( 0 0 )
 SCLK_PARTITION_END_99 = ( 1000000 1099511627775 )";
 
-fn has_few_items(doc: &Doc) -> bool
-    ensures { IsTrue result → length (items_of doc.now) < 2 ^ 32 }
-{
-    match doc.blocks.as_slice() {
-        [block] => block.items.as_slice().len() < 1000,
-        _ => false,
-    }
-}
-
 // The clock of the kernel without one of its lines, and with these data behind them.
 fn clock_without(
     rt: &(impl Abort + AllocGlobal),
@@ -53,10 +44,7 @@ fn clock_without(
         }
     }
     text.push_str(data)?;
-    assert!(rt; text.len() < 100_000);
-    let doc = read_doc(rt.alloc(), text.as_bytes())?;
-    assert!(rt; has_few_items(&doc));
-    let pool = Pool::of(rt.alloc(), &doc)?;
+    let pool = pool_of(rt, text.as_bytes())?;
     Ok(Clock::of(rt.alloc(), &pool, sc))
 }
 

@@ -3,7 +3,7 @@ use Rattle.std.specs.Prelude.{map}
 use Rattle.std.proofs.lemmas.List.{length-map, get_or-map}
 use Rattle.sk_grammar.specs.declared.value.Value.{Value}
 use Rattle.sk_grammar.specs.Variables.{VariableView}
-use Rattle.sk_leap.proofs.tests.has_few_values.Goals as goal
+use Rattle.sk_kernel_examples.proofs.leap_tables.has_few_values.Goals as goal
 
 few : (pool : List VariableView) (lists : List (List Value)) → lists ≡ map (λ (v : VariableView). v.values) pool → All (λ (values : List Value). length values < 1000) lists
     → (k : ℕ) (d : VariableView) → k < length pool → length (get_or pool k d).values < 2 ^ 32

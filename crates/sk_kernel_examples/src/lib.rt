@@ -1,0 +1,11 @@
+//! Worked kernels, on the calls that read them.
+#![tactic(auto)]
+
+#[cfg(test)]
+mod clocks;
+#[cfg(test)]
+mod documents;
+#[cfg(test)]
+mod leap_tables;
+#[cfg(test)]
+mod triples;
