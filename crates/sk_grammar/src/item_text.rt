@@ -9,7 +9,6 @@ use crate::value::{Op, Value};
 use crate::value_text::{write_value, write_values};
 use sk_checks::NoMemory;
 
-
 /// The most bytes that a data line may have.
 const MOST_DATA_BYTES: usize = 132;
 

@@ -9,7 +9,6 @@ ghost use Rattle.sk_grammar.specs.Writing.{row_text};
 use crate::value::Value;
 use sk_checks::NoMemory;
 
-
 /// How many numbers stand on a line.
 const NUMBERS_PER_LINE: usize = 3;
 

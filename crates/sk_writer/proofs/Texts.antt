@@ -1,17 +1,13 @@
 -- Texts in parts.
-use Rattle.std.proofs.Common.{◌≡◌, ℕ, ◌+◌, ◌<◌, min, List, [], ◌∷◌, ◌++◌, length, take, get_or, codes, refl, ap, sym, ◌∙◌, subst, arith, append_assoc, append-nil}
+use Rattle.std.proofs.Common.{◌≡◌, ℕ, ◌+◌, ◌<◌, List, [], ◌∷◌, ◌++◌, length, take, get_or, codes, ap, sym, ◌∙◌, append_assoc, append-nil}
 use Rattle.std.specs.List.{flat_map}
 use Rattle.std.proofs.lemmas.List.{take_more}
 use Rattle.std.proofs.lemmas.List.Concat.{flat_map-append}
-use Rattle.sk_grammar.specs.declared.value.Value.{Value}
 use Rattle.sk_grammar.specs.Document.{BlockView}
-use Rattle.sk_grammar.specs.Canonical.{value_text, rows_of_three, item_lines, block_lines, ended_by_line_feeds}
-use Rattle.sk_writer.specs.Writing.{row_text}
+use Rattle.sk_grammar.specs.Canonical.{item_lines, block_lines, ended_by_line_feeds}
 
 pub ended-append : (front behind : List (List ℕ)) → ended_by_line_feeds (front ++ behind) ≡ ended_by_line_feeds front ++ ended_by_line_feeds behind
 ended-append front behind = flat_map-append (λ (line : List ℕ). line ++ 10 ∷ []) front behind
-
--- ---- blocks
 
 pub block_text : (block : BlockView)
     → ended_by_line_feeds (block_lines block)
