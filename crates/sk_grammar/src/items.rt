@@ -2,7 +2,7 @@
 
 ghost use Rattle.std.specs.Prelude.{◌≡◌, ◌≤◌, ◌++◌, [], ◌∷◌, All, IfOk, false, length, Ok};
 ghost use Rattle.std.specs.List.{list_any};
-ghost use Rattle.sk_grammar.specs.Document.{IsItem, ItemView};
+ghost use Rattle.sk_grammar.specs.Document.{IsItem};
 ghost use Rattle.sk_grammar.specs.HeldItems.{items_text, line_of_items};
 ghost use Rattle.sk_grammar.specs.Lines.{is_line_feed};
 
@@ -69,7 +69,8 @@ impl Items {
 
     /// The items, and one more behind them.
     pub fn with_item(self, item: &Item) -> Result<Items, AllocError>
-        ensures { IfOk result (λ more. more ≡ self ++ item.now ∷ []) }
+        ensures more { IfOk result (λ more. more ≡ self ++ item.now ∷ []) }
+        ensures valid { IfOk result (All IsItem) }
     {
         let _ = &item.name;
         let Items { mut text } = self;
