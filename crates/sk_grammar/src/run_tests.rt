@@ -3,6 +3,7 @@
 use super::*;
 use crate::tests::{at, read_in_pieces};
 use sk_checks::NoMemory;
+use std::alloc::Global;
 use std::test::Fail;
 
 /// The value as it may stand in an item, without the quotes around a text.
@@ -30,17 +31,17 @@ fn show_item(out: &mut Vec<u8>, item: &Item) -> Result<(), NoMemory> {
 }
 
 /// The items of a block, and its text lines.
-fn show_block(out: &mut Vec<u8>, block: &Block) -> Result<(), NoMemory> {
-    for item in block.items.as_slice() {
+fn show_block(alloc: Global, out: &mut Vec<u8>, block: &Block) -> Result<(), NoMemory> {
+    for item in block.items.to_list(alloc)?.as_slice() {
         show_item(out, item)?;
     }
     out.extend_from_slice(block.text.as_text())
 }
 
 /// The blocks of a document, line by line.
-fn show(out: &mut Vec<u8>, doc: &Doc) -> Result<(), NoMemory> {
+fn show(alloc: Global, out: &mut Vec<u8>, doc: &Doc) -> Result<(), NoMemory> {
     for block in doc.blocks.as_slice() {
-        show_block(out, block)?;
+        show_block(alloc, out, block)?;
     }
     Ok(())
 }
@@ -93,7 +94,7 @@ fn items_are_read_however_their_lines_are_cut(rt: HostRuntime) -> Result<(), Fai
             let mut shown = Vec::new(alloc);
             match read_in_pieces(alloc, text, size) {
                 Err(fault) => assert_eq!(rt; Some(fault), None, "in pieces of {size}"),
-                Ok(doc) => show(&mut shown, &doc)?,
+                Ok(doc) => show(alloc, &mut shown, &doc)?,
             }
             assert_eq!(rt; shown.as_slice(), SHOWN.as_bytes(), "in pieces of {size}");
         }

@@ -353,7 +353,7 @@ fn a_document_is_shown(rt: HostRuntime) -> Result<(), Fail> {
     )?;
     assert_eq!(rt;
         text.as_str(),
-        "Ok(Doc { head: Lines { text: [72, 10] }, blocks: List { items: [Block { items: List { items: [Item { name: Bytes { bytes: [65] }, op: Append, values: List { items: [Text(Bytes { bytes: [105, 116, 39, 115] })] } }] }, text: Lines { text: [84, 10] } }] } })"
+        "Ok(Doc { head: Lines { text: [72, 10] }, blocks: List { items: [Block { items: Items { text: [65, 32, 43, 61, 32, 39, 105, 116, 39, 39, 115, 39, 10] }, text: Lines { text: [84, 10] } }] } })"
     );
     let mut reader = Reader::new(alloc);
     assert_eq!(rt;

@@ -4,10 +4,10 @@ ghost use Rattle.std.specs.Prelude.{◌≡◌, ◌++◌, ◌∷◌, [], ◌≤�
 ghost use Rattle.std.specs.List.{list_all};
 ghost use Rattle.sk_grammar.specs.Document.{quoted};
 ghost use Rattle.sk_grammar.specs.Canonical.{value_text, is_number, rows_of_three, value_lines, ended_by_line_feeds};
-ghost use Rattle.sk_writer.specs.Writing.{row_text};
+ghost use Rattle.sk_grammar.specs.Writing.{row_text};
 
+use crate::value::Value;
 use sk_checks::NoMemory;
-use sk_grammar::Value;
 
 /// How many numbers stand on a line.
 const NUMBERS_PER_LINE: usize = 3;

@@ -2,11 +2,12 @@
 
 ghost use Rattle.std.specs.Prelude.{◌≡◌, ◌++◌, ◌∷◌, [], IfOk, OnOk, codes, if◌then◌else◌};
 ghost use Rattle.sk_grammar.specs.Canonical.{opening_text, item_lines, vector_lines, ended_by_line_feeds};
-ghost use Rattle.sk_writer.specs.Writing.{single_line, fits_line};
+ghost use Rattle.sk_grammar.specs.Writing.{single_line, fits_line};
 
-use crate::values::{write_value, write_values};
+use crate::document::Item;
+use crate::value::{Op, Value};
+use crate::value_text::{write_value, write_values};
 use sk_checks::NoMemory;
-use sk_grammar::{Item, Op, Value};
 
 /// The most bytes that a data line may have.
 const MOST_DATA_BYTES: usize = 132;

@@ -1,7 +1,7 @@
 use Rattle.std.proofs.Common.{◌≡◌, ◌++◌}
 use Rattle.std.specs.Slice.Iter.{chunks_rest, chunks_size}
 use Rattle.sk_grammar.specs.Canonical.{rows_of_three, ended_by_line_feeds}
-use Rattle.sk_writer.proofs.values.write_rows.Given as goal
+use Rattle.sk_grammar.proofs.value_text.write_rows.Given as goal
 
 abbrev pub invariant-loop-row : goal.invariant-loop-row
 invariant-loop-row l = record {

@@ -1,9 +1,9 @@
 use Rattle.std.proofs.Common.{◌≡◌, ℕ, min, List, [], ◌∷◌, ◌++◌, length, ap, ◌∙◌}
 use Rattle.std.specs.Slice.Iter.{chunks_rest}
 use Rattle.sk_grammar.specs.Canonical.{rows_of_three, ended_by_line_feeds}
-use Rattle.sk_writer.proofs.Texts.{row_more, rejoined}
-use Rattle.sk_writer.specs.Writing.{row_text}
-use Rattle.sk_writer.proofs.values.write_rows.Goals as goal
+use Rattle.sk_grammar.proofs.WrittenRows.{row_more, rejoined}
+use Rattle.sk_grammar.specs.Writing.{row_text}
+use Rattle.sk_grammar.proofs.value_text.write_rows.Goals as goal
 
 pub loop-row-preserved : goal.loop-row-preserved
 loop-row-preserved c =
