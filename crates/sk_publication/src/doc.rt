@@ -6,9 +6,8 @@ ghost use Rattle.sk_triples.specs.Published.{appended, published_block};
 ghost use Rattle.sk_publication.specs.Publication.{HasNumbers};
 
 use crate::items::items_of;
-use crate::table::lines_of;
 use sk_checks::NoMemory;
-use sk_grammar::{Block, Bytes, Doc, List};
+use sk_grammar::{Block, Doc, Lines};
 use sk_triples::Triple;
 use sk_writer::append_block;
 use std::alloc::Global;
@@ -19,17 +18,16 @@ fn block_of(
     id: Option<&str>,
     sc: u32,
     new_triples: &[Triple],
-    table: &[Bytes],
+    table: Lines,
 ) -> Result<Block, NoMemory>
     requires id { IfSome id (λ text. IsDate (codes "@" ++ text.now)) }
     requires sc { sc ≤ 999_999_999 }
     requires triples { All HasNumbers new_triples.now }
-    requires table { All IsTextLine table.now }
-    ensures { IfOk result (λ block. block ≡ published_block (option_map (λ text. codes "@" ++ text.now) id.entry) sc new_triples.now table.now) }
+    requires table { All IsTextLine table }
+    ensures { IfOk result (λ block. block ≡ published_block (option_map (λ text. codes "@" ++ text.now) id.entry) sc new_triples.now table) }
 {
     let items = items_of(alloc, id, sc, new_triples)?;
-    let text = lines_of(alloc, table)?;
-    Ok(Block { items, text })
+    Ok(Block { items, text: table })
 }
 
 /// The kernel with the block of a publication behind it. Its items are the kernel ID, which is `@` and the text, where
@@ -41,7 +39,7 @@ pub fn published_doc(
     id: Option<&str>,
     sc: u32,
     new_triples: &[Triple],
-    table: List<Bytes>,
+    table: Lines,
 ) -> Result<Doc, NoMemory>
     requires id { IfSome id (λ text. IsDate (codes "@" ++ text.now)) }
     requires sc { sc ≤ 999_999_999 }
@@ -49,7 +47,7 @@ pub fn published_doc(
     requires table { All IsTextLine table }
     ensures { IfOk result (λ published. published ≡ appended doc (published_block (option_map (λ text. codes "@" ++ text.now) id.entry) sc new_triples.now table)) }
 {
-    let block = block_of(alloc, id, sc, new_triples, table.as_slice())?;
+    let block = block_of(alloc, id, sc, new_triples, table)?;
     match append_block(doc, block) {
         Ok(published) => Ok(published),
         Err(_) => Err(NoMemory),

@@ -4,7 +4,6 @@
 mod doc;
 mod items;
 mod numbers;
-mod table;
 #[cfg(test)]
 mod tests;
 

@@ -5,20 +5,18 @@ ghost use Rattle.sk_publication.specs.Publication.{HasNumbers};
 use crate::published_doc;
 use sk_checks::NoMemory;
 use sk_decimal::Fixed;
-use sk_grammar::{Bytes, List, read_doc};
+use sk_grammar::{Lines, read_doc};
 use sk_triples::Triple;
 use sk_writer::write_doc;
 use std::alloc::Global;
 use std::test::Fail;
 
 // A table of no observations.
-fn no_rows(alloc: Global) -> Result<List<Bytes>, NoMemory>
+fn no_rows(alloc: Global) -> Result<Lines, NoMemory>
     ensures { IfOk result (All IsTextLine) }
 {
-    let line = Vec::from_slice(alloc, b"residuals;0")?;
-    let mut lines = Vec::new(alloc);
-    lines.push(Bytes::from_vec(line))?;
-    Ok(List::from_vec(lines))
+    let lines = Lines::new(alloc).with_line(b"residuals;0")?;
+    Ok(lines)
 }
 
 // What a publication of these triples makes of a kernel with one line of text.

@@ -5,3 +5,4 @@ pub mod Lasts
 pub mod MarkLemmas
 pub mod Published
 pub mod TextLines
+pub mod OneLine

@@ -170,12 +170,8 @@ words_of rows listed (Some s) = refl
 module _ (rows : List RowView) (chain : Chain) (m : Marks) (first : m.first_new ≡ chain.first_new) (dropped : length m.dropped.items ≡ length rows) (ends : length m.ends.items ≡ length rows)
     (marked : IsMarked chain.dropped m.dropped.items) (ended : AreEnds rows chain.dropped chain.segments m.ends.items) where
   pub are_over : IsChainOver (length rows) chain → AreOver (length rows) m
-  are_over over = record {
-    dropped = dropped;
-    ends = ends;
-    within = λ place less. subst (λ (o : Option End). IfSome o (IsEndWithin (length rows))) (sym (ended place less))
-        (ended_within (length rows) (find (leaves rows chain.dropped place) chain.segments) (found_all (IsSegmentWithin (length rows)) (leaves rows chain.dropped place) chain.segments over.within));
-  }
+  are_over over = λ place less. subst (λ (o : Option End). IfSome o (IsEndWithin (length rows))) (sym (ended place less))
+      (ended_within (length rows) (find (leaves rows chain.dropped place) chain.segments) (found_all (IsSegmentWithin (length rows)) (leaves rows chain.dropped place) chain.segments over.within))
 
   pub they_tell : (place : ℕ) → place < length rows → Tells rows (Some (chain_view (sights rows) chain)) m place
   they_tell place less = record {

@@ -64,7 +64,7 @@ digits_plain (suc k) n m acc h =
           (digits_plain k (n / 10) (m + 1) (digit_glyph false (n % 10) ∷ acc) next))
     ]
 
-number : (n : ℕ) → IsPlain 64 (decimal n)
+pub number : (n : ℕ) → IsPlain 64 (decimal n)
 unfolding digits
 number n = digits_plain 64 n 0 [] (none 0)
 
@@ -91,7 +91,7 @@ fraction scale n h =
       | inr some ↦ rw some (one_more 64 46 (padded_decimal scale (n % 10 ^ scale)) refl (padded scale (n % 10 ^ scale) h))
     ]
 
-fixed : (places : ℕ) (units : ℤ) → places ≤ 64 → IsPlain 130 (fixed_text places units)
+pub fixed : (places : ℕ) (units : ℤ) → places ≤ 64 → IsPlain 130 (fixed_text places units)
 fixed places units h =
     let whole = decimal (nat_abs units / 10 ^ places) in
     both 65 65 (minus_of units ++ whole) (fraction_digits places (nat_abs units))
@@ -133,7 +133,7 @@ mark_plain code h =
     let less : code - 1 < 5 = omega (arith, h.0, h.1) in
     at_plain (codes ".:-, ") (code - 1) refl less
 
-text_plain : (clock : ClockView) (p n : ℕ) → IsClock clock → IsPlain 715 (text_in clock p n)
+pub text_plain : (clock : ClockView) (p n : ℕ) → IsClock clock → IsPlain 715 (text_in clock p n)
 text_plain clock p n h =
     let parts = padded_fields clock.moduli clock.offsets (field_values clock.moduli clock.offsets n) in
     let few : length parts ≤ 10 = omega (arith, fields_few clock.moduli clock.offsets n, h.moduli.0.1) in
@@ -147,14 +147,14 @@ text_plain clock p n h =
 id_byte : (x : ℕ) → is_id_byte x ≡ true → is_line_byte x ≡ true
 id_byte x h = grind (arith, nat_tests)
 
-id_plain : (id : List ℕ) → IsId id → IsPlain 32 id
+pub id_plain : (id : List ℕ) → IsId id → IsPlain 32 id
 id_plain id h = record { short = omega (arith, h.long.1); bytes = all_weaker is_id_byte is_line_byte id_byte id h.bytes }
 
 number_plain : (row : Option RowView) → IsPlain 64 (option_map_or (λ r. decimal r.number) row [])
 number_plain None = none 64
 number_plain (Some row) = number row.number
 
-end_plain : (rows : List RowView) (ended : EndView) → IsPlain 137 (end_text rows ended)
+pub end_plain : (rows : List RowView) (ended : EndView) → IsPlain 137 (end_text rows ended)
 end_plain rows LastEnd = record { short = omega arith; bytes = refl }
 end_plain rows PartitionEnd = record { short = omega arith; bytes = refl }
 end_plain rows FixedEnd = record { short = omega arith; bytes = refl }
@@ -173,7 +173,7 @@ end_field_plain : (chain : Option ChainView) (rows : List RowView) (place : ℕ)
 end_field_plain None rows place = none 137
 end_field_plain (Some chain) rows place = found_plain rows (find (is_left_at place) chain.segments)
 
-word_plain : (dropped new : Bool) → IsPlain 137 (cond dropped (codes "dropped") (cond new (codes "new") (codes "old")))
+pub word_plain : (dropped new : Bool) → IsPlain 137 (cond dropped (codes "dropped") (cond new (codes "new") (codes "old")))
 word_plain true new = record { short = omega arith; bytes = refl }
 word_plain false true = record { short = omega arith; bytes = refl }
 word_plain false false = record { short = omega arith; bytes = refl }
@@ -208,20 +208,23 @@ row_plain clock triples chain rows place row h id =
     wider 1577 4096 (row.id ++ 59 ∷ (text ++ 59 ∷ join_with_byte 59 rest)) (omega arith)
     (both 32 1545 row.id (59 ∷ (text ++ 59 ∷ join_with_byte 59 rest)) (id_plain row.id id) (one_more 1544 59 (text ++ 59 ∷ join_with_byte 59 rest) refl from_text))
 
+feed_is_not : (x : ℕ) → is_line_byte x ≡ true → is_line_feed x ≡ false
+feed_is_not x h = grind (arith, nat_tests)
+
+pub is_one_line : (most : ℕ) (text : List ℕ) → IsPlain most text → list_any is_line_feed text ≡ false
+is_one_line most text h = none_if_all is_line_byte is_line_feed feed_is_not text h.bytes
+
 -- a line of plain bytes is no marker, and has no line's end in it
 plain_line : (line : List ℕ) → IsPlain 4096 line → IsTextLine line
 plain_line line h = record {
   short = h.short;
   no_marker = no_marker (is_byte_of 92) (white_is_not 92 refl) line false refl refl (none_if_all is_line_byte (is_byte_of 92) no_slash line h.bytes);
-  one_line = none_if_all is_line_byte is_line_feed no_feed line h.bytes;
+  one_line = is_one_line 4096 line h;
   no_trailing_return = none_trailing line (none_if_all is_line_byte is_carriage_return no_return line h.bytes);
 }
   where
     no_slash : (x : ℕ) → is_line_byte x ≡ true → is_byte_of 92 x ≡ false
     no_slash x p = grind (arith, nat_tests)
-
-    no_feed : (x : ℕ) → is_line_byte x ≡ true → is_line_feed x ≡ false
-    no_feed x p = grind (arith, nat_tests)
 
     no_return : (x : ℕ) → is_line_byte x ≡ true → is_carriage_return x ≡ false
     no_return x p = grind (arith, nat_tests)
@@ -235,10 +238,12 @@ rows_lined clock triples chain all place (row ∷ rows) h =
     (plain_line (row_line (kernel_view 12 clock triples) chain all place row) (row_plain clock triples chain all place row known.0 known.1))
     (rows_lined clock triples chain all (place + 1) rows (All-tail (IsLined clock) row rows h))
 
+pub head_plain : (count : ℕ) → IsPlain 74 (codes "residuals;" ++ decimal count)
+head_plain count = both 10 64 (codes "residuals;") (decimal count) (record { short = omega arith; bytes = refl }) (number count)
+
 pub text_lines : (clock : ClockView) (triples : TriplesView) (rows : List RowView) (chain : Option Chain) → All (IsLined clock) rows → All IsTextLine (table_of clock triples rows chain)
 text_lines clock triples rows chain h =
     let head = codes "residuals;" ++ decimal (length rows) in
-    let word : IsPlain 10 (codes "residuals;") = record { short = omega arith; bytes = refl } in
     All-cons IsTextLine head (row_lines_from (kernel_view 12 clock triples.triples) (option_map (chain_view (sights rows)) chain) rows 0 rows)
-    (plain_line head (wider 74 4096 head (omega arith) (both 10 64 (codes "residuals;") (decimal (length rows)) word (number (length rows)))))
+    (plain_line head (wider 74 4096 head (omega arith) (head_plain (length rows))))
     (rows_lined clock triples.triples (option_map (chain_view (sights rows)) chain) rows 0 rows h)

@@ -1,5 +1,5 @@
 -- What a chain says of each observation, by places.
-use Rattle.std.specs.Prelude.{◌≡◌, ℕ, ◌<◌, false, nat_le, List, [], length, codes, slice_index_or, Option, None, IfSome, if◌then◌else◌}
+use Rattle.std.specs.Prelude.{◌≡◌, ℕ, ◌<◌, false, nat_le, List, [], codes, slice_index_or, Option, None, IfSome, if◌then◌else◌}
 use Rattle.std.specs.Option.{option_map_or}
 use Rattle.sk_clock.specs.Row.{RowView}
 use Rattle.sk_triples.specs.Table.{ChainView, end_text, end_field, kind_text}
@@ -8,11 +8,9 @@ use Rattle.sk_fit.specs.Given.{end_view}
 use Rattle.sk_report.specs.declared.marks.Marks.{Marks}
 use Rattle.sk_report.specs.Report.{IsEndWithin}
 
--- there is a mark for each of so many observations, with ends over these
-pub record AreOver (count : ℕ) (m : Marks) : Type 0 where
-  pub dropped : length m.dropped.items ≡ count
-  pub ends : length m.ends.items ≡ count
-  pub within : (place : ℕ) → place < count → IfSome (slice_index_or m.ends.items place None) (IsEndWithin count)
+-- the ends at the places of so many observations are over these
+abbrev pub AreOver : ℕ → Marks → Type 0
+AreOver count m = (place : ℕ) → place < count → IfSome (slice_index_or m.ends.items place None) (IsEndWithin count)
 
 -- the words of an end, where there is one
 abbrev pub end_words : List RowView → Option End → List ℕ

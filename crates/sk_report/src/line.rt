@@ -1,18 +1,13 @@
 //! One line of the table.
 
-ghost use Rattle.std.specs.Prelude.{◌≡◌, ◌∷◌, [], ◌++◌, ◌+◌, ◌*◌, ◌^◌, OnOk, IfOk, pos, neg_ℤ, ◌≤ℤ◌, decimal};
+ghost use Rattle.std.specs.Prelude.{◌≡◌, ◌∷◌, [], ◌++◌, ◌+◌, ◌*◌, ◌^◌, OnOk, pos, neg_ℤ, ◌≤ℤ◌, decimal};
 ghost use Rattle.sk_decimal.specs.Fixed.{fixed_text};
 ghost use Rattle.sk_report.specs.Line.{line_with};
 
 use crate::times::Timed;
 use sk_checks::NoMemory;
 use sk_decimal::{Fixed, Line};
-use sk_grammar::Bytes;
 use sk_obs::Observation;
-use std::alloc::Global;
-
-/// Room for nearly every line, taken once.
-const USUAL_LENGTH: usize = 128;
 
 // Appends the id, the clock text and the observed time, each with `;` behind it.
 fn print_reading(out: &mut Vec<u8>, observation: &Observation, text: &str) -> Result<(), NoMemory>
@@ -60,25 +55,25 @@ fn print_marks(out: &mut Vec<u8>, kind: &str, ended: &[u8]) -> Result<(), NoMemo
     Ok(())
 }
 
-/// The line of an observation.
-pub fn line_of(
-    alloc: Global,
+/// Puts the line of an observation in place of what `out` holds.
+pub fn write_line(
+    out: &mut Vec<u8>,
     observation: &Observation,
     text: &str,
     timed: Timed,
     kind: &str,
     ended: &[u8],
-) -> Result<Bytes, NoMemory>
+) -> Result<(), NoMemory>
     requires from { neg_ℤ (pos (10 ^ 33)) ≤ℤ timed.time.units }
     requires to { timed.time.units ≤ℤ pos (10 ^ 33) }
-    ensures { IfOk result (λ line. line ≡ line_with observation.now text.now timed kind.now ended.now) }
+    ensures { OnOk result (out.new.items ≡ line_with observation.now text.now timed kind.now ended.now) }
 {
     let difference = Fixed {
         units: observation.time.units - timed.time.units,
     };
-    let mut out = Vec::with_capacity(alloc, USUAL_LENGTH)?;
-    print_reading(&mut out, observation, text)?;
-    print_times(&mut out, timed, difference)?;
-    print_marks(&mut out, kind, ended)?;
-    Ok(Bytes::from_vec(out))
+    out.clear();
+    print_reading(out, observation, text)?;
+    print_times(out, timed, difference)?;
+    print_marks(out, kind, ended)?;
+    Ok(())
 }

@@ -12,7 +12,7 @@ ghost use Rattle.sk_report.specs.Line.{IsLined, fields_of};
 ghost use Rattle.sk_report.specs.Report.{IsChainOver, table_checks, table_of};
 
 use crate::fault::ReportFault;
-use crate::line::line_of;
+use crate::line::write_line;
 use crate::marking::{marks_of, old_marks};
 use crate::marks::Marks;
 use crate::times::time_of;
@@ -21,36 +21,37 @@ use sk_checks::NoMemory;
 use sk_clock::Clock;
 use sk_decimal::Line;
 use sk_fit::Chain;
-use sk_grammar::{Bytes, List};
+use sk_grammar::Lines;
 use sk_obs::Observation;
 use sk_triples::Triples;
 use std::alloc::Global;
 
 // The line with the number of observations.
-fn head_line(alloc: Global, count: usize) -> Result<Bytes, NoMemory>
-    ensures { IfOk result (λ line. line ≡ codes "residuals;" ++ decimal count) }
+fn head_line(alloc: Global, count: usize) -> Result<Lines, NoMemory>
+    ensures { IfOk result (λ lines. lines ≡ (codes "residuals;" ++ decimal count) ∷ []) }
 {
     let mut line = Line::new();
     line.push(b"residuals;");
     line.push_number(count as u128);
-    let bytes = Vec::from_slice(alloc, line.as_slice())?;
-    Ok(Bytes::from_vec(bytes))
+    let lines = Lines::new(alloc).with_line(line.as_slice())?;
+    Ok(lines)
 }
 
-// The line of an observation of this kind and end.
-fn row_line(
+// Puts the line of an observation of this kind and end in place of what `line` holds.
+fn write_row(
+    line: &mut Vec<u8>,
     alloc: Global,
     triples: &Triples,
     clock: &Clock,
     observation: &Observation,
     kind: &str,
     ended: &[u8],
-) -> Result<Bytes, ReportFault>
+) -> Result<(), ReportFault>
     requires { AreOf clock.now triples.now }
     ensures line { JudgesUnless ReportFault.NoMemory
         (carried (FirstRefuses (range_checks triples.now observation.now.tick)) (ReportFault.Range observation.now.number) ∷ [])
-        (λ line. line ≡ fields_of (kernel_view 12 clock.now triples.now.triples) observation.now kind.now ended.now) result }
-    ensures known { IfOk result (λ _. IsLined clock.now observation.now) }
+        (λ _. line.new.items ≡ fields_of (kernel_view 12 clock.now triples.now.triples) observation.now kind.now ended.now) result }
+    ensures known { OnOk result (IsLined clock.now observation.now) }
 {
     let tick = observation.tick;
     let timed = match time_of(triples, clock, tick) {
@@ -60,41 +61,51 @@ fn row_line(
     let Ok(text) = clock.text_of(alloc, tick) else {
         return Err(ReportFault::NoMemory);
     };
-    let Ok(line) = line_of(alloc, observation, text.as_str(), timed, kind, ended) else {
+    let Ok(()) = write_line(line, observation, text.as_str(), timed, kind, ended) else {
         return Err(ReportFault::NoMemory);
     };
-    Ok(line)
+    Ok(())
 }
 
-// Appends the lines of the observations.
-fn push_rows(
-    lines: &mut List<Bytes>,
+// The lines of the head, and those of the observations behind them.
+fn with_rows(
+    head: Lines,
     alloc: Global,
     triples: &Triples,
     clock: &Clock,
     observations: &[Observation],
     marks: &Marks,
-) -> Result<(), ReportFault>
+) -> Result<Lines, ReportFault>
     requires triples { AreOf clock.now triples.now }
     requires marks { AreOver (length observations.now) marks.now }
     ensures rows { (chain : Option ChainView) → ((place : ℕ) → place < length observations.now → Tells observations.now chain marks.now place)
         → JudgesUnless ReportFault.NoMemory (table_checks triples.now observations.now)
-        (λ _. lines.new ≡ lines.old ++ row_lines_from (kernel_view 12 clock.now triples.now.triples) chain observations.now 0 observations.now) result }
-    ensures known { OnOk result (All (IsLined clock.now) observations.now) }
+        (λ lines. lines ≡ head ++ row_lines_from (kernel_view 12 clock.now triples.now.triples) chain observations.now 0 observations.now) result }
+    ensures known { IfOk result (λ _. All (IsLined clock.now) observations.now) }
 {
+    let mut lines = head;
+    // One line at a time stands here, so that its room is taken once.
+    let mut line = Vec::new(alloc);
     for (place, observation) in observations.iter().enumerate() {
         let kind = kind_at(marks, place);
         let ended = end_at(observations, marks, place);
-        match row_line(alloc, triples, clock, observation, kind, ended.as_slice()) {
-            Err(fault) => return Err(fault),
-            Ok(line) => {
-                let Ok(()) = lines.push(line) else {
-                    return Err(ReportFault::NoMemory);
-                };
-            }
+        if let Err(fault) = write_row(
+            &mut line,
+            alloc,
+            triples,
+            clock,
+            observation,
+            kind,
+            ended.as_slice(),
+        ) {
+            return Err(fault);
         }
+        let Ok(more) = lines.with_line(line.as_slice()) else {
+            return Err(ReportFault::NoMemory);
+        };
+        lines = more;
     }
-    Ok(())
+    Ok(lines)
 }
 
 // The marks of the chain, or of observations that are all old.
@@ -109,7 +120,7 @@ fn marks_for(
         → Tells observations.now (option_map (chain_view (sights observations.now)) (option_map (λ c. c.now) chain.entry)) m place) }
 {
     match chain {
-        None => old_marks(alloc, observations.len()),
+        None => Ok(old_marks(alloc, observations.len())),
         Some(chain) => marks_of(alloc, chain, observations),
     }
 }
@@ -121,7 +132,7 @@ pub fn table(
     clock: &Clock,
     observations: &[Observation],
     chain: Option<&Chain>,
-) -> Result<List<Bytes>, ReportFault>
+) -> Result<Lines, ReportFault>
     requires triples { AreOf clock.now triples.now }
     requires chain { IfSome chain (λ c. IsChainOver (length observations.now) c.now) }
     ensures table { JudgesUnless ReportFault.NoMemory (table_checks triples.now observations.now)
@@ -135,12 +146,8 @@ pub fn table(
     let Ok(head) = head_line(alloc, observations.len()) else {
         return Err(ReportFault::NoMemory);
     };
-    let mut lines = List::from_vec(Vec::new(alloc));
-    let Ok(()) = lines.push(head) else {
-        return Err(ReportFault::NoMemory);
-    };
-    match push_rows(&mut lines, alloc, triples, clock, observations, &marks) {
-        Ok(()) => Ok(lines),
+    match with_rows(head, alloc, triples, clock, observations, &marks) {
+        Ok(lines) => Ok(lines),
         Err(fault) => Err(fault),
     }
 }

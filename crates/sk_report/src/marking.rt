@@ -104,16 +104,14 @@ pub fn marks_of(
     })
 }
 
-/// The marks of observations that are all old.
-pub fn old_marks(alloc: Global, count: usize) -> Result<Marks, NoMemory>
-    ensures over { IfOk result (AreOver count) }
-    ensures tells { IfOk result (λ m. (rows : List RowView) (place : ℕ) → place < count → Tells rows None m place) }
+/// The marks of observations that are all old, which take no memory.
+pub fn old_marks(alloc: Global, count: usize) -> Marks
+    ensures over { AreOver count result }
+    ensures tells { (rows : List RowView) (place : ℕ) → place < count → Tells rows None result place }
 {
-    let dropped = vec![in alloc; false; count]?;
-    let ends = vec![in alloc; None; count]?;
-    Ok(Marks {
+    Marks {
         first_new: count,
-        dropped,
-        ends,
-    })
+        dropped: Vec::new(alloc),
+        ends: Vec::new(alloc),
+    }
 }

@@ -1,6 +1,6 @@
 use sk_fit::End;
 
-/// What a chain says of each observation, by its place.
+/// What a chain says of each observation, by its place. A place past the end of a list is not dropped, or has no end.
 #[derive(Drop)]
 pub struct Marks {
     /// How many observations are old.

@@ -1,6 +1,6 @@
 //! The words for an observation's kind and for the end of a segment.
 
-ghost use Rattle.std.specs.Prelude.{◌≡◌, ◌<◌, length, None, slice_index_or};
+ghost use Rattle.std.specs.Prelude.{◌≡◌, ◌<◌, length, false, None, slice_index_or};
 ghost use Rattle.sk_triples.specs.Table.{end_text as end_text_of};
 ghost use Rattle.sk_fit.specs.Given.{end_view};
 ghost use Rattle.sk_report.specs.Report.{IsEndWithin};
@@ -39,18 +39,27 @@ pub fn end_at(observations: &[Observation], marks: &Marks, place: usize) -> Line
     requires place { place < length observations.now }
     ensures { result ≡ end_words observations.now (slice_index_or marks.now.ends.items place None) }
 {
+    if place >= marks.ends.len() {
+        return Line::new();
+    }
     match marks.ends[place] {
         None => Line::new(),
         Some(ended) => end_text(observations, ended),
     }
 }
 
+// Whether the observation at a place is dropped.
+fn is_dropped(marks: &Marks, place: usize) -> bool
+    ensures { result ≡ slice_index_or marks.now.dropped.items place false }
+{
+    place < marks.dropped.len() && marks.dropped[place]
+}
+
 /// The word for the kind of the observation at a place.
 pub fn kind_at(marks: &Marks, place: usize) -> &'static str
-    requires { place < length marks.now.dropped.items }
     ensures { result.now ≡ kind_word marks.now place }
 {
-    if marks.dropped[place] {
+    if is_dropped(marks, place) {
         "dropped"
     } else if marks.first_new <= place {
         "new"

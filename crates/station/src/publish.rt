@@ -1,5 +1,5 @@
 //! The published kernel.
-ghost use Rattle.std.specs.Prelude.{◌≡◌, ◌<◌, ◌++◌, All, List, ℕ, ℤ, IfOk, Some, length, nat_abs};
+ghost use Rattle.std.specs.Prelude.{◌≡◌, ◌<◌, ◌++◌, All, List as Sequence, ℕ, ℤ, IfOk, Some, length, nat_abs};
 ghost use Rattle.sk_edge.specs.Causes.{Rose, NoneFalls};
 ghost use Rattle.sk_edge.specs.Transfer.{SameFiles};
 ghost use Rattle.sk_grammar.specs.Canonical.{canonical_text};
@@ -26,7 +26,7 @@ use sk_clock::Clock;
 use sk_decimal::Fixed;
 use sk_edge::Depot;
 use sk_fit::{Chain, FitFault, Settings, fit};
-use sk_grammar::{Bytes, Doc, List};
+use sk_grammar::{Doc, Lines, List};
 use sk_obs::Observation;
 use sk_publication::published_doc;
 use sk_report::{ReportFault, table};
@@ -88,7 +88,7 @@ fn new_table(
     clock: &Clock,
     observations: &[Observation],
     chain: &Chain,
-) -> Result<List<Bytes>, Status>
+) -> Result<Lines, Status>
     requires triples { AreOf clock.now triples.now }
     requires chain { IsChainOver (length observations.now) chain.now }
     ensures covered { MayAnswer (λ _. tt) (all_covered triples.now observations.now) result }
@@ -106,7 +106,7 @@ fn new_table(
 
 /// The triples of the new kernel behind those of the old one.
 fn behind<'a>(triples: &'a Triples, old: &Triples) -> &'a [Triple]
-    requires { (more : List TripleView) × (triples.now.triples ≡ old.now.triples ++ more) }
+    requires { (more : Sequence TripleView) × (triples.now.triples ≡ old.now.triples ++ more) }
     ensures added { triples.now.triples ≡ old.now.triples ++ result.now }
     ensures numbers { All HasNumbers result.now }
 {
@@ -120,7 +120,7 @@ fn text_with(
     request: &Request,
     doc: Doc,
     new_triples: &[Triple],
-    table: List<Bytes>,
+    table: Lines,
 ) -> Result<Vec<u8>, NoMemory>
     requires number { NeedsNumber request.now.command }
     requires triples { All HasNumbers new_triples.now }
@@ -138,18 +138,21 @@ fn published_text(
     alloc: Global,
     request: &Request,
     kernel: Kernel,
-    observations: &[Observation],
+    observations: List<Observation>,
     chain: &Chain,
 ) -> Result<Vec<u8>, Status>
     requires number { NeedsNumber request.now.command }
-    requires over { IsChainOver (length observations.now) chain.now }
+    requires over { IsChainOver (length observations) chain.now }
     requires triples { AreTriples kernel.triples.total (kernel.triples.triples ++ new_triples_of chain.now) }
-    ensures { MayAnswer (λ v. v.items) (after_chain (options_in request.now) kernel observations.now chain.now) result }
+    ensures { MayAnswer (λ v. v.items) (after_chain (options_in request.now) kernel observations chain.now) result }
 {
     let Ok(triples) = chain.triples(alloc, &kernel.triples) else {
         return Err(Status::NoMemory);
     };
-    let table = new_table(alloc, &triples, &kernel.clock, observations, chain)?;
+    let rows = observations.as_slice();
+    let table = new_table(alloc, &triples, &kernel.clock, rows, chain)?;
+    // The table tells all that is left to tell of them, and the text will take as much memory.
+    drop(observations);
     let added = behind(&triples, &kernel.triples);
     let Ok(text) = text_with(alloc, request, kernel.doc, added, table) else {
         return Err(Status::NoMemory);
@@ -162,13 +165,13 @@ fn published(
     alloc: Global,
     request: &Request,
     kernel: Kernel,
-    observations: &[Observation],
+    observations: List<Observation>,
 ) -> Result<Vec<u8>, Status>
     requires number { NeedsNumber request.now.command }
-    requires rows { AreRows (total kernel.clock) observations.now }
-    ensures { MayAnswer (λ v. v.items) (after_rows (options_in request.now) kernel observations.now) result }
+    requires rows { AreRows (total kernel.clock) observations }
+    ensures { MayAnswer (λ v. v.items) (after_rows (options_in request.now) kernel observations) result }
 {
-    let chain = chain_of(alloc, request, &kernel, observations)?;
+    let chain = chain_of(alloc, request, &kernel, observations.as_slice())?;
     published_text(alloc, request, kernel, observations, &chain)
 }
 
@@ -187,5 +190,5 @@ pub fn publish<D: Depot>(alloc: Global, depot: &mut D, request: &Request) -> Res
     let leap = leap_file(alloc, depot, request)?;
     let kernel = kernel_file(alloc, depot, request)?;
     let observations = observation_file(alloc, depot, request, &kernel, &leap)?;
-    published(alloc, request, kernel, observations.as_slice())
+    published(alloc, request, kernel, observations)
 }

@@ -1,8 +1,7 @@
 //! The table of observations by a kernel.
-ghost use Rattle.std.specs.Prelude.{◌≡◌, List, ℕ, IfOk};
+ghost use Rattle.std.specs.Prelude.{◌≡◌, List, ℕ};
 ghost use Rattle.sk_edge.specs.Causes.{Rose, NoneFalls};
 ghost use Rattle.sk_edge.specs.Transfer.{SameFiles};
-ghost use Rattle.sk_grammar.specs.Canonical.{ended_by_line_feeds};
 ghost use Rattle.station.specs.Stage.{MayAnswer};
 ghost use Rattle.sk_words.specs.Asked.{options_in, NeedsNumber};
 ghost use Rattle.station.specs.Files.{Source};
@@ -10,9 +9,8 @@ ghost use Rattle.station.specs.Outcome.{residuals as residuals_stage, tabled as 
 
 use crate::files::{kernel_file, leap_file, observation_file};
 use crate::kernel::Kernel;
-use sk_checks::NoMemory;
 use sk_edge::Depot;
-use sk_grammar::{Bytes, List};
+use sk_grammar::Lines;
 use sk_obs::Observation;
 use sk_report::{ReportFault, table};
 use sk_status::{ObsStop, Status};
@@ -24,7 +22,7 @@ fn plain_table(
     alloc: Global,
     kernel: &Kernel,
     observations: &[Observation],
-) -> Result<List<Bytes>, Status>
+) -> Result<Lines, Status>
     ensures { MayAnswer (λ l. l) (tabled_stage kernel.now observations.now) result }
 {
     match table(alloc, &kernel.triples, &kernel.clock, observations, None) {
@@ -34,18 +32,6 @@ fn plain_table(
             Err(Status::ObservationRefused(ObsStop::Range(number, fault)))
         }
     }
-}
-
-/// The lines, each ended by a line feed.
-pub fn ended_lines(alloc: Global, lines: &[Bytes]) -> Result<Vec<u8>, NoMemory>
-    ensures { IfOk result (λ v. v.items ≡ ended_by_line_feeds lines.now) }
-{
-    let mut text = Vec::new(alloc);
-    for line in lines {
-        text.extend_from_slice(line.as_slice())?;
-        text.push(b'\n')?;
-    }
-    Ok(text)
 }
 
 /// What `residuals` writes.
@@ -68,8 +54,5 @@ pub fn residuals<D: Depot>(
     let kernel = kernel_file(alloc, depot, request)?;
     let observations = observation_file(alloc, depot, request, &kernel, &leap)?;
     let lines = plain_table(alloc, &kernel, observations.as_slice())?;
-    let Ok(text) = ended_lines(alloc, lines.as_slice()) else {
-        return Err(Status::NoMemory);
-    };
-    Ok(text)
+    Ok(lines.into_text())
 }

@@ -72,5 +72,4 @@ returns-clause-stage g c =
     behind_kernel h0 h1 (g.D.Depot.given c.leap_file.new.depot) given f0 f1 f3 c.leap_file.ensures.same_files c.leap_file.ensures.counts
     options (publish_after_kernel source options) leap c.in_ok-leap.ensures.stage
     (λ v. v.items) kernel c.published.result c.in_ok-kernel.ensures.stage
-    (may_then (λ v. v.items) (observation_file source options kernel.clock leap) (after_rows options kernel) rows c.published.result has_rows
-    (subst (λ (r : List RowView). MayAnswer (λ (v : Vec ℕ Global). v.items) (after_rows options kernel r) c.published.result) c.as_slice.ensures c.published.ensures))
+    (may_then (λ v. v.items) (observation_file source options kernel.clock leap) (after_rows options kernel) rows c.published.result has_rows c.published.ensures)

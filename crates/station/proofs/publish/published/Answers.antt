@@ -1,4 +1,5 @@
-use Rattle.std.proofs.Common.{◌≡◌, ℕ, List, Ok, Err}
+use Rattle.std.proofs.Common.{List, Ok, subst}
+use Rattle.sk_clock.specs.Row.{RowView}
 use Rattle.sk_words.specs.Asked.{options_in}
 use Rattle.sk_words.specs.Request.{Options}
 use Rattle.station.specs.Outcome.{chain_of}
@@ -9,5 +10,5 @@ use Rattle.station.proofs.publish.published.Goals as goal
 pub returns : goal.returns
 returns c =
     let options : Options = options_in c.args.request.now in
-    may_then (λ v. v.items) (chain_of options c.args.kernel c.args.observations.now) (after_chain options c.args.kernel c.args.observations.now) c.in_ok-chain.chain c.published_text.result
-    c.in_ok-chain.ensures.stage c.published_text.ensures
+    may_then (λ v. v.items) (chain_of options c.args.kernel c.args.observations) (after_chain options c.args.kernel c.args.observations) c.in_ok-chain.chain c.published_text.result
+    (subst (λ (rows : List RowView). chain_of options c.args.kernel rows (Ok c.in_ok-chain.chain)) c.as_slice.ensures c.in_ok-chain.ensures.stage) c.published_text.ensures

@@ -5,6 +5,8 @@ use Rattle.sk_triples.specs.Kernel.{TriplesView}
 use Rattle.sk_words.specs.Asked.{options_in}
 use Rattle.station.specs.Files.{KernelRead}
 use Rattle.station.specs.Output.{new_kernel}
+use Rattle.sk_report.specs.Report.{table_of}
+use Rattle.station.specs.Outcome.{all_covered}
 use Rattle.station.specs.Publishing.{after_chain}
 use Rattle.station.proofs.Additions.{is_published}
 use Rattle.station.proofs.publish.published_text.Goals as goal
@@ -12,6 +14,8 @@ use Rattle.station.proofs.publish.published_text.Goals as goal
 pub returns : goal.returns
 returns c =
     let kernel : KernelRead = record { doc = c.kernel.inside.doc; clock = c.kernel.inside.clock; triples = c.kernel.inside.triples } in
-    subst (λ (k : KernelRead). after_chain (options_in c.args.request.now) k c.args.observations.now c.args.chain.now (Ok c.in-Ok-text_with.text.items)) c.kernel.view_is
-    (is_published (options_in c.args.request.now) kernel c.args.observations.now c.args.chain.now c.in-Ok.triples c.behind-added.result.now c.in_ok-table.table c.in-Ok-text_with.text.items
-    c.in-Ok.ensures c.behind-added.ensures.added c.in_ok-table.ensures.covered c.in_ok-table.ensures.table c.in-Ok-text_with.ensures)
+    let same : c.as_slice-rows.result.now ≡ c.args.observations = c.as_slice-rows.ensures in
+    subst (λ (k : KernelRead). after_chain (options_in c.args.request.now) k c.args.observations c.args.chain.now (Ok c.in-Ok-text_with.text.items)) c.kernel.view_is
+    (is_published (options_in c.args.request.now) kernel c.args.observations c.args.chain.now c.in-Ok.triples c.behind-added.result.now c.in_ok-table.table c.in-Ok-text_with.text.items
+    c.in-Ok.ensures c.behind-added.ensures.added (subst (λ (rows : List RowView). all_covered c.in-Ok.triples rows (Ok tt)) same c.in_ok-table.ensures.covered)
+    (subst (λ (rows : List RowView). c.in_ok-table.table ≡ table_of kernel.clock c.in-Ok.triples rows (Some c.args.chain.now)) same c.in_ok-table.ensures.table) c.in-Ok-text_with.ensures)

@@ -1,7 +1,6 @@
 use Rattle.std.proofs.Common.{◌≡◌, ℕ, ◌≤◌, List, Option, Ok, Err, refl, sym, ap, subst, ◌∙◌, arith}
 use Rattle.sk_leap.specs.declared.pair.LeapPair.{LeapPair}
 use Rattle.sk_clock.specs.Row.{RowView}
-use Rattle.sk_grammar.specs.Canonical.{ended_by_line_feeds}
 use Rattle.sk_status.specs.declared.status.Status.{Status}
 use Rattle.station.specs.Stage.{MayAnswer}
 use Rattle.sk_words.specs.Asked.{options_in}
@@ -116,5 +115,4 @@ returns-clause-stage g c =
     observations_kept (over h2 given f2 f3) source later options kernel.clock leap rows c.in_ok-observations.ensures.stage in
     let lines : List (List ℕ) = c.in_ok-lines.lines in
     let has_lines : tabled kernel rows (Ok lines) = subst (λ (r : List RowView). tabled kernel r (Ok lines)) same c.in_ok-lines.ensures in
-    let text : c.in-Ok.text.items ≡ ended_by_line_feeds lines = c.in-Ok.ensures ∙ ap ended_by_line_feeds c.as_slice-2.ensures in
-    (leap, has_leap, (kernel, has_kernel, (rows, has_rows, (lines, has_lines, ap Ok text))))
+    (leap, has_leap, (kernel, has_kernel, (rows, has_rows, (lines, has_lines, ap Ok c.into_text.ensures))))

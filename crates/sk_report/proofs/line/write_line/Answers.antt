@@ -2,7 +2,7 @@ use Rattle.std.proofs.Common.{◌+◌, ◌∙◌, rules, decimal}
 use Rattle.std.specs.Prelude.{◌-ℤ◌}
 use Rattle.sk_decimal.specs.Fixed.{fixed_text}
 use Rattle.sk_report.proofs.Joined.{three_parts}
-use Rattle.sk_report.proofs.line.line_of.Goals as goal
+use Rattle.sk_report.proofs.line.write_line.Goals as goal
 
 pub returns : goal.returns
 returns c =

@@ -8,10 +8,10 @@ use Rattle.sk_triples.specs.Table.{kernel_view, row_line, row_lines_from, kind_t
 use Rattle.sk_report.specs.Report.{table_checks}
 use Rattle.sk_report.specs.Line.{fields_of, IsLined}
 use Rattle.sk_report.proofs.RowLines.{checks_more, checks_refused, split_at, take_next, lines_more}
-use Rattle.sk_report.proofs.listing.push_rows.Goals as goal
+use Rattle.sk_report.proofs.listing.with_rows.Goals as goal
 
 pub loop-place-init : goal.loop-place-init
-loop-place-init c = (λ chain tells. (tt, sym (append-nil c.args.lines.now)), All-nil (IsLined c.args.clock.now))
+loop-place-init c = (λ chain tells. (tt, sym (append-nil c.args.head)), All-nil (IsLined c.args.clock.now))
 
 pub returns-in-Err-clause-rows : goal.returns-in-Err-clause-rows
 returns-in-Err-clause-rows c = λ chain tells.
@@ -39,7 +39,7 @@ loop-place-preserved c = (
       ∙ ap (λ (w : List ℕ). fields_of k row w c.as_slice.result.now) kind ∙ ap (λ (w : List ℕ). fields_of k row (kind_text chain place) w) ended in (
         subst (λ (rs : List RowView). NoneRefuses (table_checks c.args.triples.now rs)) (sym (take_next rows place row less c.index-observations-place.is))
             (checks_more c.args.triples.now (take place rows) row so_far.0 c.in-Ok.ensures.line.0),
-        lines_more k chain rows place row c.args.lines.now c.loop-place.lines c.push.new.self c.in-Ok.line less c.index-observations-place.is line c.in-Ok-push.ensures.ok so_far.1,
+        lines_more k chain rows place row c.args.head c.loop-place.lines c.push.new.self c.in-Ok.line less c.index-observations-place.is line c.in-Ok-push.ensures.ok so_far.1,
       ),
   All-more (IsLined c.args.clock.now) c.args.observations.now c.loop-place.place c.index-observations-place.result c.loop-place-test.true c.loop-place.invariant.1
       (subst (IsLined c.args.clock.now) c.index-observations-place.is c.in-Ok.ensures.known),
@@ -51,7 +51,7 @@ returns-clause-rows c = λ chain tells.
     let so_far = c.loop-place.invariant.0 chain tells in
     let all : take c.loop-place.place rows ≡ rows = take_all c.loop-place.place rows (let past = c.loop-place-test.false in past) in (
       subst (λ (rs : List RowView). NoneRefuses (table_checks c.args.triples.now rs)) all so_far.0,
-      so_far.1 ∙ ap (λ (rs : List RowView). c.args.lines.now ++ row_lines_from (kernel_view 12 c.args.clock.now c.args.triples.now.triples) chain rows 0 rs) all,
+      so_far.1 ∙ ap (λ (rs : List RowView). c.args.head ++ row_lines_from (kernel_view 12 c.args.clock.now c.args.triples.now.triples) chain rows 0 rs) all,
     )
 
 pub returns-clause-known : goal.returns-clause-known
