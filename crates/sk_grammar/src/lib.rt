@@ -38,8 +38,3 @@ pub use read::read_doc;
 pub use reader::Reader;
 pub use text::Lines;
 pub use value::{Op, Value};
-
-#[cfg(test)]
-mod run_tests;
-#[cfg(test)]
-mod tests;

@@ -8,4 +8,8 @@ mod documents;
 #[cfg(test)]
 mod leap_tables;
 #[cfg(test)]
+mod runs;
+#[cfg(test)]
+mod texts;
+#[cfg(test)]
 mod triples;

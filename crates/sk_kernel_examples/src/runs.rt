@@ -1,8 +1,8 @@
 //! Tests of data lines that are read one after the other, however the text is cut.
 
-use super::*;
-use crate::tests::{at, read_in_pieces};
+use crate::texts::{at, read_in_pieces};
 use sk_checks::NoMemory;
+use sk_grammar::{Block, Doc, Item, Op, Reason, Value, read_doc};
 use std::alloc::Global;
 use std::test::Fail;
 

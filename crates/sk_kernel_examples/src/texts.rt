@@ -1,6 +1,8 @@
+//! Kernel texts, whole and in pieces.
+
 ghost use Rattle.std.specs.Prelude.{◌<◌, ◌≤◌, length};
 
-use super::*;
+use sk_grammar::{Doc, GrammarFault, Reader, Reason, read_doc};
 use std::alloc::{AllocError, Global};
 use std::test::Fail;
 
