@@ -8,6 +8,7 @@ the coefficients, and what each record says, are written out here as a person re
 the commands are.
 """
 import datetime
+import math
 from fractions import Fraction
 
 COUNT = 65536  # ticks of a count, which is a second by the clock's own idea
@@ -92,6 +93,46 @@ def table(records):
         print(name, clock_text(encoded), decimals(observed), decimals(time), observed - time, number, "old;", sep=";")
 
 
+def steps(anchor, step, sight, slack):
+    """The rate, in steps, of the line from the anchor that passes the sight so many picoseconds above."""
+    _, encoded, observed, _ = sight
+    return (observed + slack - anchor[1] * 10**12) * COUNT / ((encoded - anchor[0]) * step * 10**12)
+
+
+def rates(anchor, step, sights, tolerance):
+    """The least and the greatest rate that stays within the tolerance of the sights, in steps."""
+    least = max(math.ceil(steps(anchor, step, sight, -tolerance)) for sight in sights)
+    greatest = min(math.floor(steps(anchor, step, sight, tolerance)) for sight in sights)
+    return least, greatest
+
+
+def published(records, tolerance, step):
+    """The block that a publication adds where the old last triple is left behind an observation and one new triple is within the
+    tolerance of all that follow, as here."""
+    sights = [(name, encoded, sent - delay * 1000, number) for number, (name, encoded, sent, delay) in enumerate(records, 2)]
+    within = [abs(time_of(encoded)[1] - observed) <= tolerance for _, encoded, observed, _ in sights]
+    left = within.index(False) - 1
+    ticks, time, rate = TRIPLES[-1]
+    there = (time + rate * Fraction(sights[left][1] - ticks, COUNT)) * 10**12
+    anchor = (sights[left][1], Fraction(math.ceil(there), 10**12))
+    least, greatest = rates(anchor, step, sights[left + 1 :], tolerance)
+    assert least <= greatest
+    TRIPLES.append((*anchor, (least + greatest) // 2 * step))
+    ends = {left: "fixed", len(sights) - 1: "last"}
+    print(*map(plain, TRIPLES[-1]))
+    print("residuals;%d" % len(sights))
+    for place, (name, encoded, observed, _) in enumerate(sights):
+        number, time = time_of(encoded)
+        print(name, clock_text(encoded), decimals(observed), decimals(time), observed - time, number, "new", ends.get(place, ""), sep=";")
+
+
+def plain(number):
+    """The decimals of the number, without zeros at the end."""
+    places = next(s for s in range(19) if (Fraction(number) * 10**s).denominator == 1)
+    whole, part = divmod(int(number * 10**places), 10**places)
+    return "%d.%0*d" % (whole, places, part) if places else "%d" % whole
+
+
 def line(encoded, utc_of):
     time = time_of(encoded)[1]
     print(clock_text(encoded), encoded, decimals(time), utc_of(time), sep=";")
@@ -105,3 +146,5 @@ print("reading.converted")
 line(tick(1742400, 32768), lambda time: "-")
 print("shutter.converted")
 line(tick(0x1CFDE0, 0x4000), utc_text)
+print("pass-022.published, behind orbiter.canonical")
+published(PASS_022, 30000 * 1000, Fraction(1, 10**12))

@@ -15,8 +15,6 @@ mod partition;
 mod reading;
 mod scan;
 mod stages;
-#[cfg(test)]
-mod tests;
 mod text;
 mod ticks;
 

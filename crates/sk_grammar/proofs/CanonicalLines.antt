@@ -291,6 +291,10 @@ no_feeds : (ls : List (List ℕ)) → AreWholeLines ls → list_any (list_any is
 no_feeds [] p = refl
 no_feeds (l ∷ ls) p = ap (λ (b : Bool). b || list_any (list_any is_line_feed) ls) p.0.one_line ∙ no_feeds ls p.1
 
+-- no line of a valid item is cut by a line feed
+pub item_feeds : (item : ItemView) → IsItem item → list_any (list_any is_line_feed) (item_lines item) ≡ false
+item_feeds item valid = no_feeds (item_lines item) (plain_whole (item_lines item) (item_plain item valid))
+
 returns_kept : (ls : List (List ℕ)) → AreWholeLines ls → map (without_trailing is_carriage_return) ls ≡ ls
 returns_kept [] p = refl
 returns_kept (l ∷ ls) p = ap (λ (x : List ℕ). x ∷ map (without_trailing is_carriage_return) ls) p.0.no_return ∙ ap (λ (t : List (List ℕ)). l ∷ t) (returns_kept ls p.1)

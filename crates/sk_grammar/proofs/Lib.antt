@@ -35,3 +35,5 @@ pub mod Rows
 pub mod PlainTexts
 pub mod PlainLines
 pub mod CanonicalLines
+pub mod WrittenRows
+pub mod HeldItems

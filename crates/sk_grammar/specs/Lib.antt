@@ -15,3 +15,5 @@ pub mod HasRead
 pub mod Texts
 pub mod DataLines
 pub mod Quotes
+pub mod Writing
+pub mod HeldItems

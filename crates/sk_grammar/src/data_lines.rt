@@ -1,6 +1,6 @@
 //! Data lines, taken in turn: the head and the blocks before them stay where they are.
 
-ghost use Rattle.std.specs.Prelude.{◌≡◌, ◌+◌, ◌^◌, ◌<◌, List as Sequence, ℕ, Ok, Err, IfOk, IfErr, OnOk, OnErr, false, count_by};
+ghost use Rattle.std.specs.Prelude.{◌≡◌, ◌+◌, ◌++◌, [], ◌∷◌, ◌^◌, ◌<◌, List as Sequence, ℕ, Ok, Err, IfOk, IfErr, OnOk, OnErr, false, count_by};
 ghost use Rattle.sk_grammar.specs.declared.state.State.TheVariants.{InData as AtData};
 ghost use Rattle.sk_grammar.specs.DataLines.{AreReached, AreReachedAt, GivesPlace, TakesDataLines, RefusesDataLines};
 ghost use Rattle.sk_grammar.specs.Document.{BlockView};
@@ -11,17 +11,27 @@ ghost use Rattle.sk_grammar.specs.Valid.{IsClosedItem, IsReached};
 
 use crate::document::Item;
 use crate::fault::{GrammarFault, Reason};
+use crate::items::Items;
 use crate::lines::{begins_data, begins_text, has_bad_byte, without_white};
-use crate::list::List;
 use crate::place::Place;
 use crate::reading::read_line;
 use crate::state::State;
 use crate::stop::Stop;
 use crate::taking::{Taking, split_line, without_returns};
-use std::alloc::Global;
+use std::alloc::{AllocError, Global};
+use std::mem;
+
+/// Puts the item last.
+fn add_item(alloc: Global, items: &mut Items, item: &Item) -> Result<(), AllocError>
+    ensures { OnOk result (items.new ≡ items.old ++ item.now ∷ []) }
+{
+    let held = mem::replace(items, Items::new(alloc));
+    *items = held.with_item(item)?;
+    Ok(())
+}
 
 /// The end of a data line: an item that is closed joins the others.
-fn end_line(items: &mut List<Item>, place: Place) -> Result<Place, Stop>
+fn end_line(alloc: Global, items: &mut Items, place: Place) -> Result<Place, Stop>
     requires { IsClosedItem place }
     ensures { (head : Sequence (Sequence ℕ)) (blocks : Sequence BlockView) → GivesPlace result head blocks items.new (end_data head blocks items.old place) }
 {
@@ -29,7 +39,7 @@ fn end_line(items: &mut List<Item>, place: Place) -> Result<Place, Stop>
         Place::Named(_) => Err(Stop::Refused(Reason::NoAssign)),
         Place::Closed(name, op, values) => {
             let values = values.into_list();
-            match items.push(Item { name, op, values }) {
+            match add_item(alloc, items, &Item { name, op, values }) {
                 Err(_) => Err(Stop::OutOfMemory),
                 Ok(()) => Ok(Place::Idle),
             }
@@ -41,7 +51,7 @@ fn end_line(items: &mut List<Item>, place: Place) -> Result<Place, Stop>
 /// A data line that is no marker, and the place behind it.
 pub fn take_tokens(
     alloc: Global,
-    items: &mut List<Item>,
+    items: &mut Items,
     place: Place,
     line: &[u8],
 ) -> Result<Place, Stop>
@@ -58,14 +68,14 @@ pub fn take_tokens(
     }
     match read_line(alloc, place, line) {
         Err(stop) => Err(stop),
-        Ok(place) => end_line(items, place),
+        Ok(place) => end_line(alloc, items, place),
     }
 }
 
 /// Data lines taken in turn, how many lines have ended, and what stands behind them.
 #[derive(Drop)]
 struct DataLines<'a> {
-    items: List<Item>,
+    items: Items,
     place: Place,
     count: u32,
     rest: &'a [u8],
@@ -74,7 +84,7 @@ struct DataLines<'a> {
 /// Takes the lines in front of a marker, in data mode.
 fn take_lines<'a>(
     alloc: Global,
-    items: List<Item>,
+    items: Items,
     place: Place,
     count: u32,
     piece: &'a [u8],

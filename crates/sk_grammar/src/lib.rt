@@ -6,6 +6,8 @@ mod data_lines;
 mod document;
 mod ending;
 mod fault;
+mod item_text;
+mod items;
 mod laws;
 mod lines;
 mod list;
@@ -20,11 +22,13 @@ mod taking;
 mod text;
 mod tokens;
 mod value;
+mod value_text;
 mod values;
 
 pub use bytes::Bytes;
 pub use document::{Block, Doc, Item};
 pub use fault::{GrammarFault, Reason};
+pub use items::Items;
 pub use laws::{
     always_one, canonical_text_spells, item_lines_spell, never_both, one_document, one_item,
     one_reason, one_refusal,
@@ -34,8 +38,3 @@ pub use read::read_doc;
 pub use reader::Reader;
 pub use text::Lines;
 pub use value::{Op, Value};
-
-#[cfg(test)]
-mod run_tests;
-#[cfg(test)]
-mod tests;

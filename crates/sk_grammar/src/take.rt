@@ -11,8 +11,9 @@ ghost use Rattle.sk_grammar.specs.Stopping.{Gives};
 ghost use Rattle.sk_grammar.specs.Valid.{IsReachedState};
 
 use crate::data_lines::take_tokens;
-use crate::document::{Block, Item};
+use crate::document::Block;
 use crate::fault::Reason;
+use crate::items::Items;
 use crate::lines::{begins_data, begins_text};
 use crate::list::List;
 use crate::place::Place;
@@ -30,7 +31,7 @@ fn take_head(alloc: Global, texts: Lines, line: &[u8]) -> Result<State, Stop>
         return Ok(State::InData(
             texts,
             List::from_vec(Vec::new(alloc)),
-            List::from_vec(Vec::new(alloc)),
+            Items::new(alloc),
             Place::Idle,
         ));
     }
@@ -51,7 +52,7 @@ fn next_block(
     alloc: Global,
     head: Lines,
     blocks: List<Block>,
-    items: List<Item>,
+    items: Items,
     texts: Lines,
 ) -> Result<State, Stop>
     requires items { All IsItem items }
@@ -61,7 +62,7 @@ fn next_block(
     let mut blocks = blocks;
     match blocks.push(Block { items, text: texts }) {
         Err(_) => Err(Stop::OutOfMemory),
-        Ok(()) => Ok(State::InData(head, blocks, List::from_vec(Vec::new(alloc)), Place::Idle)),
+        Ok(()) => Ok(State::InData(head, blocks, Items::new(alloc), Place::Idle)),
     }
 }
 
@@ -70,7 +71,7 @@ fn take_text(
     alloc: Global,
     head: Lines,
     blocks: List<Block>,
-    items: List<Item>,
+    items: Items,
     texts: Lines,
     line: &[u8],
 ) -> Result<State, Stop>
@@ -109,7 +110,7 @@ fn take_data(
     alloc: Global,
     head: Lines,
     blocks: List<Block>,
-    items: List<Item>,
+    items: Items,
     place: Place,
     line: &[u8],
 ) -> Result<State, Stop>

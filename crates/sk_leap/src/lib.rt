@@ -12,8 +12,6 @@ mod pair;
 mod parts;
 mod table;
 mod tdt;
-#[cfg(test)]
-mod tests;
 mod text;
 mod utc;
 

@@ -1,11 +1,11 @@
 //! The variables while a document's items are taken.
 
-ghost use Rattle.std.specs.Prelude.{◌≡◌, ◌+◌, ◌^◌, ◌<◌, [], length, Some, None, Ok, false, true, OnOk, IfOk, IfErr};
-ghost use Rattle.sk_grammar.specs.Variables.{items_of};
-ghost use Rattle.sk_pool.specs.Assigning.{IsTable, variables_in, place_in, values_behind, adds_mixed, is_mixing, assigned, all_assigned, AreOneKind, IsMixedOf, IsMixing};
+ghost use Rattle.std.specs.Prelude.{◌≡◌, ◌+◌, ◌^◌, ◌<◌, [], length, map, Some, None, Ok, false, true, OnOk, IfOk, IfErr};
+ghost use Rattle.sk_pool.specs.Assigning.{IsTable, variables_in, place_in, values_behind, adds_mixed, is_mixing, assigned, all_assigned, all_of, AreOneKind, IsMixedOf, IsMixing};
 
 use crate::copies::{append_copies, begins_text, copied_bytes, copied_values};
 use crate::pool::PoolFault;
+use sk_checks::NoMemory;
 use sk_grammar::{Bytes, Doc, Item, List, Op, Value};
 use std::alloc::Global;
 use std::collections::BTreeMap;
@@ -125,15 +125,26 @@ impl<'a> Table<'a> {
     }
 }
 
-/// The table of all items of the document.
-pub(crate) fn table_of(alloc: Global, doc: &Doc) -> Result<Table<'_>, PoolFault>
-    requires { length (items_of doc.now) < 2 ^ 32 }
-    ensures ok { IfOk result (λ table. IsTable table × (all_assigned [] 1 (items_of doc.now) ≡ Ok (variables_in table))) }
-    ensures mixed { IfErr result (IsMixedOf (all_assigned [] 1 (items_of doc.now))) }
+/// The items of each block of the document.
+pub(crate) fn item_lists(alloc: Global, doc: &Doc) -> Result<List<List<Item>>, NoMemory>
+    ensures { IfOk result (λ lists. lists ≡ map (λ block. block.items) doc.now.blocks) }
+{
+    let mut lists = List::from_vec(Vec::new(alloc));
+    for block in doc.blocks.as_slice() {
+        lists.push(block.items.to_list(alloc)?)?;
+    }
+    Ok(lists)
+}
+
+/// The table of all items.
+pub(crate) fn table_of(alloc: Global, lists: &[List<Item>]) -> Result<Table<'_>, PoolFault>
+    requires { length (all_of lists.now) < 2 ^ 32 }
+    ensures ok { IfOk result (λ table. IsTable table × (all_assigned [] 1 (all_of lists.now) ≡ Ok (variables_in table))) }
+    ensures mixed { IfErr result (IsMixedOf (all_assigned [] 1 (all_of lists.now))) }
 {
     let mut table = Table::new(alloc);
-    for block in doc.blocks.as_slice() {
-        table.assign_all(alloc, block.items.as_slice())?;
+    for items in lists {
+        table.assign_all(alloc, items.as_slice())?;
     }
     Ok(table)
 }

@@ -1,6 +1,6 @@
 //! The items of a publication's block.
 
-ghost use Rattle.std.specs.Prelude.{◌≡◌, ◌<◌, ◌≤◌, ◌++◌, ◌∷◌, [], All, IfOk, IfSome, OnOk, codes, flat_map, length, option_map};
+ghost use Rattle.std.specs.Prelude.{◌≡◌, ◌<◌, ◌≤◌, ◌++◌, ◌∷◌, [], All, IfOk, IfSome, codes, flat_map, length, option_map};
 ghost use Rattle.sk_grammar.specs.Document.{IsDate, IsItem};
 ghost use Rattle.sk_grammar.specs.declared.value.Value.TheVariants.{Date};
 ghost use Rattle.sk_triples.specs.Published.{coefficients_name as coefficients_name_of, coefficient_items, id_items, triple_values};
@@ -9,7 +9,7 @@ ghost use Rattle.sk_publication.specs.Publication.{HasNumbers};
 use crate::numbers::numbers_of;
 use sk_checks::NoMemory;
 use sk_decimal::Line;
-use sk_grammar::{Bytes, Item, List, Op, Value};
+use sk_grammar::{Bytes, Item, Items, List, Op, Value};
 use sk_triples::Triple;
 use std::alloc::Global;
 
@@ -51,50 +51,48 @@ fn id_values(alloc: Global, id: &str) -> Result<List<Value>, NoMemory>
     Ok(List::from_vec(values))
 }
 
-// Appends the kernel ID, where one is given.
-fn push_id(items: &mut List<Item>, alloc: Global, id: Option<&str>) -> Result<(), NoMemory>
+// The items, and behind them the kernel ID where one is given.
+fn with_id(items: Items, alloc: Global, id: Option<&str>) -> Result<Items, NoMemory>
     requires id { IfSome id (λ text. IsDate (codes "@" ++ text.now)) }
-    requires items { All IsItem items.old }
-    ensures items { OnOk result (items.new ≡ items.old ++ id_items (option_map (λ text. codes "@" ++ text.now) id.entry)) }
-    ensures valid { OnOk result (All IsItem items.new) }
+    requires items { All IsItem items }
+    ensures items { IfOk result (λ more. more ≡ items ++ id_items (option_map (λ text. codes "@" ++ text.now) id.entry)) }
+    ensures valid { IfOk result (All IsItem) }
 {
     let Some(id) = id else {
-        return Ok(());
+        return Ok(items);
     };
     let name = copied(alloc, b"SCLK_KERNEL_ID")?;
     let values = id_values(alloc, id)?;
-    items.push(Item {
+    items.with_item(&Item {
         name,
         op: Op::Set,
         values,
-    })?;
-    Ok(())
+    })
 }
 
-// Appends the numbers of the triples, where there are any.
-fn push_coefficients(
-    items: &mut List<Item>,
+// The items, and behind them the numbers of the triples where there are any.
+fn with_coefficients(
+    items: Items,
     alloc: Global,
     sc: u32,
     triples: &[Triple],
-) -> Result<(), NoMemory>
+) -> Result<Items, NoMemory>
     requires sc { sc ≤ 999_999_999 }
     requires triples { All HasNumbers triples.now }
-    requires items { All IsItem items.old }
-    ensures items { OnOk result (items.new ≡ items.old ++ coefficient_items sc (flat_map triple_values triples.now)) }
-    ensures valid { OnOk result (All IsItem items.new) }
+    requires items { All IsItem items }
+    ensures items { IfOk result (λ more. more ≡ items ++ coefficient_items sc (flat_map triple_values triples.now)) }
+    ensures valid { IfOk result (All IsItem) }
 {
     if triples.is_empty() {
-        return Ok(());
+        return Ok(items);
     }
     let name = coefficients_name(alloc, sc)?;
     let values = numbers_of(alloc, triples)?;
-    items.push(Item {
+    items.with_item(&Item {
         name,
         op: Op::Append,
         values,
-    })?;
-    Ok(())
+    })
 }
 
 /// The kernel ID and the numbers of the triples, each where it is given.
@@ -103,15 +101,13 @@ pub(crate) fn items_of(
     id: Option<&str>,
     sc: u32,
     triples: &[Triple],
-) -> Result<List<Item>, NoMemory>
+) -> Result<Items, NoMemory>
     requires id { IfSome id (λ text. IsDate (codes "@" ++ text.now)) }
     requires sc { sc ≤ 999_999_999 }
     requires triples { All HasNumbers triples.now }
     ensures items { IfOk result (λ items. items ≡ id_items (option_map (λ text. codes "@" ++ text.now) id.entry) ++ coefficient_items sc (flat_map triple_values triples.now)) }
     ensures valid { IfOk result (All IsItem) }
 {
-    let mut items = List::from_vec(Vec::new(alloc));
-    push_id(&mut items, alloc, id)?;
-    push_coefficients(&mut items, alloc, sc, triples)?;
-    Ok(items)
+    let items = with_id(Items::new(alloc), alloc, id)?;
+    with_coefficients(items, alloc, sc, triples)
 }

@@ -5,8 +5,6 @@ mod line;
 mod lookup;
 mod numbers;
 mod reading;
-#[cfg(test)]
-mod tests;
 mod triple;
 mod triples;
 mod values;

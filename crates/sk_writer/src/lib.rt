@@ -2,10 +2,8 @@
 #![tactic(auto)]
 
 mod append;
-mod items;
 #[cfg(test)]
 mod tests;
-mod values;
 mod write;
 
 pub use append::{AppendRefused, append_block};

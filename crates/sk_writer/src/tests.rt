@@ -1,5 +1,5 @@
 use crate::{append_block, write_doc};
-use sk_grammar::{Block, Doc, Lines, List, read_doc};
+use sk_grammar::{Block, Doc, Items, Lines, read_doc};
 use std::process::Abort;
 use std::test::Fail;
 
@@ -71,7 +71,7 @@ fn no_line_of_133_bytes(rt: HostRuntime) -> Result<(), Fail> {
 #[test]
 fn a_block_is_put_last(rt: HostRuntime) -> Result<(), Fail> {
     let doc = read(&rt, b"head\n\\begindata\nA = 1")?;
-    let items = List::from_vec(Vec::new(rt.alloc()));
+    let items = Items::new(rt.alloc());
     let text = Lines::new(rt.alloc());
     let Ok(longer) = append_block(doc, Block { items, text }) else {
         assert!(rt; false, "memory ran out");

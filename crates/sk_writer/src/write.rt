@@ -1,10 +1,8 @@
 ghost use Rattle.std.specs.Prelude.{◌≡◌, ◌++◌, OnOk, IfOk};
-ghost use Rattle.std.specs.List.{flat_map};
-ghost use Rattle.sk_grammar.specs.Canonical.{item_lines, block_lines, ended_by_line_feeds, canonical_text};
+ghost use Rattle.sk_grammar.specs.Canonical.{block_lines, ended_by_line_feeds, canonical_text};
 
-use crate::items::{write_item, write_line};
 use sk_checks::NoMemory;
-use sk_grammar::{Block, Doc, Item, Lines};
+use sk_grammar::{Block, Doc, Lines};
 use std::alloc::Global;
 
 // Appends the lines, each with a line feed behind it.
@@ -15,21 +13,12 @@ fn write_lines(out: &mut Vec<u8>, lines: &Lines) -> Result<(), NoMemory>
     Ok(())
 }
 
-fn write_items(out: &mut Vec<u8>, items: &[Item]) -> Result<(), NoMemory>
-    ensures { OnOk result (out.new.items ≡ out.old.items ++ ended_by_line_feeds (flat_map item_lines items.now)) }
-{
-    for item in items {
-        write_item(out, item)?;
-    }
-    Ok(())
-}
-
 fn write_block(out: &mut Vec<u8>, block: &Block) -> Result<(), NoMemory>
     ensures { OnOk result (out.new.items ≡ out.old.items ++ ended_by_line_feeds (block_lines block.now)) }
 {
-    write_line(out, b"\\begindata")?;
-    write_items(out, block.items.as_slice())?;
-    write_line(out, b"\\begintext")?;
+    out.extend_from_slice(b"\\begindata\n")?;
+    out.extend_from_slice(block.items.as_text())?;
+    out.extend_from_slice(b"\\begintext\n")?;
     write_lines(out, &block.text)?;
     Ok(())
 }
