@@ -18,3 +18,4 @@ pub mod Documents
 pub mod Settings
 pub mod SameClock
 pub mod Published
+pub mod OneText

@@ -19,11 +19,12 @@ use Rattle.sk_triples.specs.Line.{FallsOver}
 use Rattle.sk_triples.specs.Chain.{SegmentView, EachFollowed, FirstAndLater, IsMaximal, IsOldRate, IsGridRate, AreMaximal, new_triples, first_or, covered_by}
 use Rattle.sk_triples.specs.Kernel.{TriplesView, IsTriple, Rise, AreTriples, AreKept}
 use Rattle.sk_triples.specs.Laws.{IsWithinTolerance}
-use Rattle.sk_triples.specs.Published.{published_block, triple_values}
+use Rattle.sk_triples.specs.Table.{kernel_view, table_lines}
+use Rattle.sk_triples.specs.Published.{published_block, triple_values, appended}
 use Rattle.sk_triples.proofs.KernelOf.{positive_count}
 use Rattle.sk_triples.proofs.Lists.{all_map}
 use Rattle.sk_fit.specs.declared.chain.Chain.{Chain}
-use Rattle.sk_fit.specs.Given.{terms_of, segments_of, new_triples_of}
+use Rattle.sk_fit.specs.Given.{terms_of, segments_of, new_triples_of, chain_view}
 use Rattle.sk_fit.specs.Causes.{Gives, input}
 use Rattle.sk_fit.proofs.SmallClock.{small_clock}
 use Rattle.sk_fit.proofs.NewTriples.{gives_triples}
@@ -42,7 +43,7 @@ use Rattle.station.specs.Ending.{Ends}
 use Rattle.station.specs.Files.{Source, KernelRead, sc_of, leap_named, kernel_file, LeapOf, ClockOf, TriplesOf, ObservationsOf}
 use Rattle.station.specs.Output.{settings_of, dated, new_kernel, published_doc, published_table}
 use Rattle.station.specs.Outcome.{requested, outcome, outcome_of, publish}
-use Rattle.station.specs.Headline.{AreHeld, IsLeapHeld, GivePairs, IsKernel, MayEnd, IsPublished}
+use Rattle.station.specs.Headline.{AreHeld, IsLeapHeld, GivePairs, IsKernel, MayEnd, IsPublished, told, doc_with}
 use Rattle.station.proofs.Complete.{asked_for}
 use Rattle.station.proofs.Documents.{spelled_valid, published_valid}
 use Rattle.station.proofs.NewJoins.{falls_stand}
@@ -112,11 +113,16 @@ module _ (options : Options) (within : AreWithin options) (leap_bytes : Option (
   positive = omega (arith, positive_count old.clock clocked)
 
   kept : AreKept old.triples
-  kept = record {
-    triples = record { some = some_triples; few = sound.few; each = sound.each; rise = sound.rise };
-    per_count = (omega (arith, positive, is_old.has_triples.1.of_clock.0), omega (arith, clocked.moduli.2, is_old.has_triples.1.of_clock.0));
-    total = omega (arith, clocked.partitions.together, is_old.has_triples.1.of_clock.1);
-  }
+  kept =
+      let count : old.triples.per_count ≡ ticks_per old.clock = is_old.has_triples.1.of_clock.0 in
+      let all : old.triples.total ≡ total old.clock = is_old.has_triples.1.of_clock.1 in
+      let few : ticks_per old.clock ≤ 2 ^ 32 = clocked.moduli.2 in
+      let below : total old.clock < 2 ^ 53 = clocked.partitions.together in
+      record {
+        triples = record { some = some_triples; few = sound.few; each = sound.each; rise = sound.rise };
+        per_count = (omega (arith, positive), omega arith);
+        total = omega arith;
+      }
 
   triples : AreTriples old.triples.total (old.triples.triples ++ added)
   triples = gives_triples old.triples old.clock rows (settings_of options) chain (settings_ranges options within) (small_clock old.clock clocked) kept is_old.has_triples.1.of_clock known.0 g
@@ -161,6 +167,15 @@ module _ (options : Options) (within : AreWithin options) (leap_bytes : Option (
       (falls_stand terms g.begins.last.0 g.publication.kept None segments positive g.publication.is_chain i
       (subst (λ (ts : List TripleView). FallsOver (ticks_per old.clock) ts (pos 0) i) (sym joined) f)).1
 
+  view : chain_view (sights rows) chain ≡ told terms rows g.dropped segments
+  view = λ i. record { first_new = g.first_new i; dropped = g.dropped_places i; segments = segments }
+
+  seen : added ≡ new_triples segments
+  seen = new_triples_seen (sights rows) chain
+
+  same_doc : doc ≡ doc_with options old g.old rows g.dropped segments
+  same_doc = λ i. appended old.doc (published_block (dated options) (sc_of options) (seen i) (table_lines (kernel_view 12 old.clock (old.triples.triples ++ seen i)) (Some (view i)) rows))
+
   pub is_published : GivePairs leap_bytes leap → IsPublished options leap_bytes kernel_bytes observation_bytes (canonical_text doc)
   is_published is_leap = record {
     leap = leap;
@@ -171,9 +186,9 @@ module _ (options : Options) (within : AreWithin options) (leap_bytes : Option (
     are_observations = are;
     new = new;
     is_new = is_new;
-    block = block;
-    behind = refl;
     same_clock = refl;
+    is_doc = same_doc;
+    is_text = refl;
     front = g.begins.last.0;
     last = g.old;
     is_last = g.begins.last.1;
@@ -194,7 +209,7 @@ read_is held read bytes h e = subst (λ (o : Option (List ℕ)). IfSome o (λ fi
 
 pairs_of : (source : Source) (name bytes : Option (List ℕ)) (pairs : List LeapPair) → leap_named source name (Ok pairs) → IsLeapHeld source.holds name bytes → GivePairs bytes pairs
 pairs_of source None bytes pairs h held = let none : pairs ≡ [] = cc in subst (λ (b : Option (List ℕ)). GivePairs b pairs) (sym held) none
-pairs_of source (Some name) None pairs h held = absurd held.1
+pairs_of source (Some name) None pairs h held = cc
 pairs_of source (Some name) (Some bytes) pairs h held =
     let same : h.1.0 ≡ bytes = read_is (source.holds name) h.1.0 bytes h.1.1.1 held.0 in
     (
