@@ -118,7 +118,7 @@ module _ (whole : ℕ) where
       ]
 
       in_order : (previous : Option TripleView) → ArePair before previous → (Follows previous t → ⊥) → ⊥
-      in_order previous pair no = none.1.1.1.0 (out_of_order before previous row t pair of no)
+      in_order previous pair other = none.1.1.1.0 (out_of_order before previous row t pair of other)
 
       follows : (previous : Option TripleView) → ArePair before previous → Follows previous t
       follows None pair = tt
