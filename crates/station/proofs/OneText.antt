@@ -65,10 +65,11 @@ module _ (options : Options) (leap_bytes : Option (List ℕ)) (kernel_bytes obse
   same : (p.dropped ≡ q.dropped) × (p.chain ≡ q.chain)
   same = one_publication (terms_of (settings_of options) q.old.clock q.last) (sights q.observations) p.dropped q.dropped p.chain q.chain moved q.publication
 
+  written : doc_with options p.old p.last p.observations p.dropped p.chain ≡ doc_with options q.old q.last q.observations q.dropped q.chain
+  written = λ i. doc_with options (kernels i) (lasts i) (rows i) (same.0 i) (same.1 i)
+
   texts : a ≡ b
-  texts =
-      p.is_text ∙ ap canonical_text p.is_doc ∙ (λ i. canonical_text (doc_with options (kernels i) (lasts i) (rows i) (same.0 i) (same.1 i)))
-      ∙ sym (ap canonical_text q.is_doc) ∙ sym q.is_text
+  texts = p.is_text ∙ ap canonical_text (p.is_doc ∙ written ∙ sym q.is_doc) ∙ sym q.is_text
 
 pub one_text : OneText
 one_text options leap_bytes kernel_bytes observation_bytes a b p q = texts options leap_bytes kernel_bytes observation_bytes a b p q

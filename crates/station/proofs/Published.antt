@@ -5,7 +5,7 @@ use Rattle.std.proofs.lemmas.List.Elements.{All-weaker}
 use Rattle.std.specs.Io.KnownBytes.{Appends}
 use Rattle.std.specs.Prelude.{ℤ, pos, ◌<ℤ◌, All, IfSome, IsSome, codes, flat_map}
 use Rattle.std.specs.List.{AllByRecursion}
-use Rattle.sk_grammar.specs.Document.{BlockView, DocView, IsDoc, IsTextLine}
+use Rattle.sk_grammar.specs.Document.{ItemView, BlockView, DocView, IsDoc, IsTextLine}
 use Rattle.sk_grammar.specs.Variables.{VariableView, variables_of, items_of}
 use Rattle.sk_grammar.specs.Spelling.{Spells}
 use Rattle.sk_grammar.specs.Canonical.{canonical_text}
@@ -148,7 +148,7 @@ module _ (options : Options) (within : AreWithin options) (leap_bytes : Option (
   is_new = record {
     spelled = canonical_spelled doc valid;
     unmixed = none_mixes old.doc doc (dated options) (sc_of options) added (items_behind old.doc block) is_old.unmixed (old_plain old.doc old.clock (sc_of options) old.triples is_old.has_triples);
-    has_clock = subst (λ items. ClockOf (variables_of items) (sc_of options) (Ok old.clock)) (sym (items_behind old.doc block))
+    has_clock = subst (λ (items : List ItemView). ClockOf (variables_of items) (sc_of options) (Ok old.clock)) (sym (items_behind old.doc block))
         (same_clock (items_of old.doc) (dated options) (sc_of options) (flat_map triple_values added) old.clock is_old.has_clock);
     has_triples = reread old.doc old.clock (sc_of options) old.triples (dated options) added (published_table old rows chain) is_old.has_triples
         (subst (λ (m : ℕ). AreTriples m (old.triples.triples ++ added)) is_old.has_triples.1.of_clock.1 triples);
@@ -222,24 +222,20 @@ pairs_of source (Some name) (Some bytes) pairs h held =
 -- the kernel of the bytes that were read
 kernel_of : (source : Source) (options : Options) (bytes : List ℕ) (kernel : KernelRead) → kernel_file source options (Ok kernel) → source.holds (text_or opt.Kernel options) ≡ Some bytes
     → IsKernel (sc_of options) bytes kernel
-kernel_of source options bytes kernel h held = subst (IsKernel (sc_of options) bytes) (sym is) kernel_is
-  where
-    same : h.1.0 ≡ bytes
-    same = read_is (source.holds (text_or opt.Kernel options)) h.1.0 bytes h.1.1.1 held
-
-    abbrev read : KernelRead
-    read = record { doc = h.0; clock = h.2.2.0; triples = h.2.2.2.0 }
-
-    is : kernel ≡ read
-    is = let all : ◌≡◌ {A = Result KernelRead Status} (Ok kernel) (Ok read) = h.2.2.2.2 in cc
-
-    kernel_is : IsKernel (sc_of options) bytes read
-    kernel_is = record {
+kernel_of source options bytes kernel h held =
+    let same : h.1.0 ≡ bytes = read_is (source.holds (text_or opt.Kernel options)) h.1.0 bytes h.1.1.1 held in
+    let read : KernelRead = record { doc = h.0; clock = h.2.2.0; triples = h.2.2.2.0 } in
+    let is : kernel ≡ read = read_back kernel read h.2.2.2.2 in
+    let kernel_is : IsKernel (sc_of options) bytes read = record {
       spelled = subst (λ (b : List ℕ). Spells b h.0) same h.1.2;
       unmixed = (h.2.1.0, refl);
-      has_clock = subst (λ (variables : List VariableView). ClockOf variables (sc_of options) (Ok read.clock)) h.2.1.1 h.2.2.1;
-      has_triples = subst (λ (variables : List VariableView). TriplesOf variables read.clock (sc_of options) (Ok read.triples)) h.2.1.1 h.2.2.2.1;
-    }
+      has_clock = subst (λ (variables : List VariableView). ClockOf variables (sc_of options) (Ok h.2.2.0)) h.2.1.1 h.2.2.1;
+      has_triples = subst (λ (variables : List VariableView). TriplesOf variables h.2.2.0 (sc_of options) (Ok h.2.2.2.0)) h.2.1.1 h.2.2.2.1;
+    } in
+    subst (IsKernel (sc_of options) bytes) (sym is) kernel_is
+  where
+    read_back : (a b : KernelRead) → ◌≡◌ {A = Result KernelRead Status} (Ok a) (Ok b) → a ≡ b
+    read_back a b e = cc
 
 -- ---- the run
 
@@ -266,7 +262,7 @@ pub headline : (words : List (List ℕ)) (request : Request) (source : Source) (
     → AreHeld source.holds request.options leap_bytes kernel_bytes observation_bytes
     → (written : List ℕ) × Appends out.before out.after written × IsPublished request.options leap_bytes kernel_bytes observation_bytes written
 headline words request source out status leap_bytes kernel_bytes observation_bytes ends asked command done held =
-    let h : Ends (outcome words source) out Done = subst (Ends (outcome words source) out) done ends in
+    let h : Ends (outcome words source) out Done = subst (λ (s : Status). Ends (outcome words source) out s) done ends in
     let text : publish source request.options (Ok h.0) =
     subst (λ (c : Command). outcome_of c source request.options (Ok h.0)) command (asked_for words request source (Ok h.0) asked h.1) in
     (h.0, h.2, published_text source request.options leap_bytes kernel_bytes observation_bytes h.0 (are_within (codes "station" ∷ words) request asked) held text)
