@@ -370,7 +370,7 @@ requested_determined : (words : List (List ℕ)) → IsDetermined (requested wor
 requested_determined words = judged_determined (WordsAsk words) WordsRefused (words_one words)
 
 -- the words ask for this, and the run goes on with it alone
-asked_for : (words : List (List ℕ)) (request : Request) (source : Source) (r : Result (List ℕ) Status) → requested (codes "station" ∷ words) (Ok request) → outcome words source r
+pub asked_for : (words : List (List ℕ)) (request : Request) (source : Source) (r : Result (List ℕ) Status) → requested (codes "station" ∷ words) (Ok request) → outcome words source r
     → outcome_of request.command source request.options r
 asked_for words request source (Ok text) asked h =
     let same : ◌≡◌ {A = Result Request Status} (Ok h.0) (Ok request) = requested_determined (codes "station" ∷ words) (Ok h.0) (Ok request) h.1 asked in

@@ -13,3 +13,9 @@ pub mod Additions
 pub mod Reread
 pub mod NewJoins
 pub mod NewTimes
+pub mod Ranges
+pub mod Documents
+pub mod Settings
+pub mod SameClock
+pub mod Published
+pub mod OneText

@@ -31,4 +31,4 @@ new_triples_seen all chain = new_of all chain.dropped chain.segments
 
 -- two publications add the same triples
 pub one_addition : (x : Input) (a b : Chain) → Gives x a → Gives x b → new_triples_of a ≡ new_triples_of b
-one_addition x a b p q = new_triples_seen x.all a ∙ ap new_triples (one_gives x a b p q).2.1 ∙ sym (new_triples_seen x.all b)
+one_addition x a b p q = new_triples_seen x.all a ∙ ap new_triples (one_gives x a b p q).2 ∙ sym (new_triples_seen x.all b)

@@ -124,7 +124,7 @@ triples_single variables clock sc =
     let rows = single_each None 1 (row_checks (total clock)) (rows_of (values_for variables sc)) (λ before n row. (plain-single _ _, (plain-single _ _, (plain-single _ _, (plain-single _ _, tt))))) in
     (plain-single _ _, (plain-single _ _, (plain-single _ _, rows)))
 
-whole_one : (m n : ℕ) → Number (record { coefficient = pos m; scale = 0 }) ≡ Number (record { coefficient = pos n; scale = 0 }) → m ≡ n
+pub whole_one : (m n : ℕ) → Number (record { coefficient = pos m; scale = 0 }) ≡ Number (record { coefficient = pos n; scale = 0 }) → m ≡ n
 whole_one m n same =
     let a : DecimalView = record { coefficient = pos m; scale = 0 } in
     let b : DecimalView = record { coefficient = pos n; scale = 0 } in

@@ -1,5 +1,5 @@
 -- A kernel with the block of a publication behind it gives the old triples, and the new ones behind them.
-use Rattle.std.proofs.Common.{◌≡◌, ◌≢◌, ℕ, ◌+◌, ◌*◌, ◌%◌, ◌^◌, ◌<◌, ◌≤◌, true, List, [], ◌∷◌, ◌++◌, length, map, Option, Some, None, refl, sym, ap, subst, ◌∙◌, arith, append_assoc, inl, inr}
+use Rattle.std.proofs.Common.{◌≡◌, ◌≢◌, ℕ, ◌+◌, ◌*◌, ◌%◌, ◌^◌, ◌<◌, ◌≤◌, true, false, List, [], ◌∷◌, ◌++◌, length, map, Option, Some, None, refl, sym, ap, subst, ◌∙◌, arith, append_assoc, inl, inr}
 use Rattle.std.proofs.lemmas.Bool.{false≢true, cases_Bool, eqb-true, eqb-false}
 use Rattle.std.proofs.lemmas.Int.{ints}
 use Rattle.std.proofs.lemmas.List.Concat.{flat_map-append}
@@ -7,13 +7,13 @@ use Rattle.std.proofs.lemmas.Slice.Eq.{bytes_eq-Decides}
 use Rattle.std.proofs.lemmas.Slice.Zip.{AllZip-long}
 use Rattle.std.specs.Prelude.{ℤ, pos, negsuc, neg_ℤ, nat_abs, ◌≤ℤ◌, ◌<ℤ◌, ◌==◌, codes, unwrap_or, Ok}
 use Rattle.std.specs.Str.{bytes_eq}
-use Rattle.std.specs.List.{flat_map, list_all, AllZip, AllByRecursion}
+use Rattle.std.specs.List.{flat_map, list_all, list_any, AllZip, AllByRecursion}
 use Rattle.sk_checks.specs.Checks.{Judges, NoneRefuses, each_after}
 use Rattle.sk_checks.proofs.ChecksLemmas.{NoneRefuses-append}
 use Rattle.sk_grammar.specs.declared.value.Value.{Value}
 use Rattle.sk_grammar.specs.declared.value.Value.TheVariants.{Date}
 use Rattle.sk_grammar.specs.declared.value.Op.TheVariants.{Set, Append}
-use Rattle.sk_grammar.specs.Document.{ItemView, BlockView, DocView}
+use Rattle.sk_grammar.specs.Document.{ItemView, BlockView, DocView, is_text}
 use Rattle.sk_grammar.specs.Variables.{items_of, values_of, values_at, variables_of}
 use Rattle.sk_pool.proofs.Growing.{values_of-other, values_of-same, values_at-variables_of}
 use Rattle.sk_clock.specs.Clock.{ClockView, total}
@@ -28,6 +28,7 @@ use Rattle.sk_triples.proofs.Decimals.{is_time, is_rate}
 use Rattle.sk_triples.proofs.ReadRows.{in_order}
 use Rattle.sk_triples.proofs.KernelOf.{AreRows, accepted}
 use Rattle.sk_publication.proofs.Reduced.{reduced_units}
+use Rattle.station.specs.Files.{TriplesOf}
 
 -- ---- the rows of the new triples
 
@@ -65,7 +66,7 @@ abs_within (pos m) n p q = omega (arith, ints)
 abs_within (negsuc m) n p q = omega (arith, ints)
 
 -- the first triple follows the one before it
-abbrev Leads : Option TripleView → List TripleView → Type 0
+abbrev pub Leads : Option TripleView → List TripleView → Type 0
 Leads before [] = Unit {0}
 Leads before (t ∷ ts) = Follows before t
 
@@ -124,7 +125,7 @@ module _ (sc : ℕ) (items : List ItemView) where
       values_of-same (coefficients_name sc) items (record { name = coefficients_name sc; op = Append; values = value ∷ values }) (same_bytes (coefficients_name sc))
 
 -- the items of the document with the block behind it
-items_behind : (doc : DocView) (block : BlockView) → items_of (appended doc block) ≡ items_of doc ++ block.items
+pub items_behind : (doc : DocView) (block : BlockView) → items_of (appended doc block) ≡ items_of doc ++ block.items
 items_behind doc block =
     flat_map-append (λ (b : BlockView). b.items) doc.blocks (block ∷ []) ∙ ap (λ (items : List ItemView). items_of doc ++ items) (append-nothing block.items)
 
@@ -154,6 +155,19 @@ rows_if_some values some =
 found_at : (o : Option (List Value)) (values : List Value) → unwrap_or o [] ≡ values → 0 < length values → o ≡ Some values
 found_at None values e some = let none : length values ≡ 0 = ap length (sym e) in absurd (omega arith)
 found_at (Some x) values e some = ap Some e
+
+rows_plain : (rows : List Row) → list_any is_text (flat_map row_values rows) ≡ false
+rows_plain [] = refl
+rows_plain (row ∷ rows) = rows_plain rows
+
+-- the old coefficients are no texts
+pub old_plain : (doc : DocView) (clock : ClockView) (sc : ℕ) (old : TriplesView) → TriplesOf (variables_of (items_of doc)) clock sc (Ok old)
+    → list_any is_text (values_of (coefficients_name sc) (items_of doc)) ≡ false
+old_plain doc clock sc old h =
+    let name : List ℕ = coefficients_name sc in
+    let from : values_for (variables_of (items_of doc)) sc ≡ values_of name (items_of doc) = values_at-variables_of name (items_of doc) in
+    let rows : AreRows (values_of name (items_of doc)) = subst AreRows from (rows_if_some (values_for (variables_of (items_of doc)) sc) h.0.1.0) in
+    ap (list_any is_text) rows ∙ rows_plain (rows_of (values_of name (items_of doc)))
 
 -- what the variables of the new document give
 pub reread : (doc : DocView) (clock : ClockView) (sc : ℕ) (old : TriplesView) (id : Option (List ℕ)) (new : List TripleView) (table : List (List ℕ))

@@ -4,6 +4,7 @@
 mod convert;
 mod files;
 mod kernel;
+mod laws;
 mod meaning;
 mod normal;
 mod publish;
@@ -16,6 +17,7 @@ mod tests;
 mod ticks;
 mod top;
 
+pub use laws::one_text;
 pub use reading::{document, read_file};
 use sk_edge::{FileDepot, Sink, StreamSink};
 use sk_status::{Status, write_note};

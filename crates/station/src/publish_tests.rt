@@ -1,5 +1,5 @@
 use super::*;
-use crate::tests::{CLOCK, HEADER, KERNEL, SHAPE, SPAN, SPANS, TRIPLE, files, texts};
+use crate::tests::{CLOCK, HEADER, KERNEL, SHAPE, SPAN, SPANS, TRIPLE, files, leap_files_of, texts};
 use sk_edge::{MemoryDepot, MemorySink};
 use std::alloc::{AllocError, Global};
 use std::test::Fail;
@@ -32,11 +32,11 @@ const DROPPED_BLOCK: &str =
 
 const NAMED_BLOCK: &str = "\\begindata\nSCLK_KERNEL_ID = @2024-02-01\n\\begintext\nresiduals;0\n";
 
-/// An output with room for 2,000 bytes.
-fn wide_output(alloc: Global) -> Result<MemorySink, AllocError> {
+/// An output with room for 2,000 bytes, which takes ten bytes a write.
+fn wide_output(alloc: Global, failing: Vec<u64>) -> Result<MemorySink, AllocError> {
     Ok(MemorySink::new(
         vec![in alloc; 10]?,
-        Vec::new(alloc),
+        failing,
         vec![in alloc; 0; 2000]?,
     ))
 }
@@ -52,6 +52,60 @@ fn published(alloc: Global, parts: &[&str], block: &str) -> Result<Vec<u8>, Allo
     }
     text.extend_from_slice(block.as_bytes())?;
     Ok(text)
+}
+
+const WORDS: [&str; 6] = [
+    "publish",
+    "--leap=l",
+    "--kernel=k",
+    "--obs=o",
+    "--sc=99",
+    "--rate-decimals=9",
+];
+
+#[test]
+fn each_call_of_the_depot_fails(rt: HostRuntime) -> Result<(), Fail> {
+    let alloc = rt.alloc();
+    let text = published(alloc, &PLAIN, SLOW_BLOCK)?;
+    for call in 1..11u64 {
+        let words = texts(alloc, &WORDS)?;
+        let held = leap_files_of(alloc, SLOW)?;
+        let mut depot = MemoryDepot::new(held, Vec::new(alloc), vec![in alloc; call]?);
+        let mut out = wide_output(alloc, Vec::new(alloc))?;
+        let mut notes = wide_output(alloc, Vec::new(alloc))?;
+        let status = run(alloc, &words, &mut depot, &mut out, &mut notes);
+        // A file is chosen, read, and read at its end.
+        let (code, line, written) = match call {
+            1..=3 => (7, "refused;7;Leap\n", 0),
+            4..=6 => (7, "refused;7;Kernel\n", 0),
+            7..=9 => (7, "refused;7;Observations\n", 0),
+            _ => (0, "", text.len()),
+        };
+        assert_eq!(rt; status.code(), code, "at {call}");
+        assert_eq!(rt; notes.written(), line.as_bytes());
+        assert_eq!(rt; out.written(), &text[..written]);
+    }
+    Ok(())
+}
+
+#[test]
+fn each_call_of_the_output_fails(rt: HostRuntime) -> Result<(), Fail> {
+    let alloc = rt.alloc();
+    let text = published(alloc, &PLAIN, SLOW_BLOCK)?;
+    let calls = text.len().div_ceil(10);
+    for call in 1..calls + 2 {
+        let words = texts(alloc, &WORDS)?;
+        let held = leap_files_of(alloc, SLOW)?;
+        let mut depot = MemoryDepot::new(held, vec![in alloc; 7]?, Vec::new(alloc));
+        let mut out = wide_output(alloc, vec![in alloc; call as u64]?)?;
+        let mut notes = wide_output(alloc, Vec::new(alloc))?;
+        let status = run(alloc, &words, &mut depot, &mut out, &mut notes);
+        let written = text.len().min(10 * (call - 1));
+        let code = if call <= calls { 8 } else { 0 };
+        assert_eq!(rt; status.code(), code, "at {call}");
+        assert_eq!(rt; out.written(), &text[..written]);
+    }
+    Ok(())
 }
 
 #[test]
@@ -96,8 +150,8 @@ fn kernels_are_published(rt: HostRuntime) -> Result<(), Fail> {
         }
         let held = files(alloc, parts, observations)?;
         let mut depot = MemoryDepot::new(held, vec![in alloc; 1]?, Vec::new(alloc));
-        let mut out = wide_output(alloc)?;
-        let mut notes = wide_output(alloc)?;
+        let mut out = wide_output(alloc, Vec::new(alloc))?;
+        let mut notes = wide_output(alloc, Vec::new(alloc))?;
         let status = run(alloc, &words, &mut depot, &mut out, &mut notes);
         let text = published(alloc, parts, block)?;
         assert_eq!(rt; notes.written(), line.as_bytes());

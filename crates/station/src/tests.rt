@@ -173,8 +173,16 @@ const LEAP_WORDS: [&str; 5] = ["residuals", "--leap=l", "--kernel=k", "--obs=o",
 
 /// The same files, and a leap second kernel before them.
 fn leap_files(alloc: Global) -> Result<Vec<(String, Vec<u8>)>, AllocError> {
+    leap_files_of(alloc, ROW)
+}
+
+/// A kernel, these observations and a leap second kernel.
+pub fn leap_files_of(
+    alloc: Global,
+    observations: &str,
+) -> Result<Vec<(String, Vec<u8>)>, AllocError> {
     let kernel: &[&str] = &[KERNEL, CLOCK, SHAPE, SPAN, TRIPLE];
-    let mut files = files(alloc, kernel, ROW)?;
+    let mut files = files(alloc, kernel, observations)?;
     files.push((
         String::from_str(alloc, "l")?,
         LEAP.as_bytes().to_vec(alloc)?,

@@ -1,6 +1,7 @@
 //! The top call.
 
 ghost use Rattle.std.specs.Prelude.{◌≡◌, List, ℕ, Option, Some, Result, Ok, Err, map, string_bytes, IfOk, IsSome, All, codes, false, ◌∷◌};
+ghost use Rattle.std.specs.Io.KnownBytes.{Appends};
 ghost use Rattle.sk_edge.specs.Causes.{Rose, NoneFalls};
 ghost use Rattle.sk_edge.specs.Transfer.{SameFiles};
 ghost use Rattle.sk_words.specs.Words.{is_taken};
@@ -10,6 +11,7 @@ ghost use Rattle.station.specs.Stage.{MayAnswer, gives};
 ghost use Rattle.station.specs.Files.{Source};
 ghost use Rattle.station.specs.Outcome.{outcome, outcome_of, requested as requested_by};
 ghost use Rattle.station.specs.Ending.{Ends, EndsOrMemory, status_of};
+ghost use Rattle.station.specs.Headline.{AreHeld, IsPublished};
 ghost use Rattle.sk_status.specs.Written.{Written, IsNoted};
 ghost use Rattle.sk_status.specs.Notes.{CarriesNoMemory};
 ghost use Rattle.sk_status.specs.declared.status.Status.{Status as Ended};
@@ -147,6 +149,16 @@ pub fn run<D: Depot, S: Sink, N: Sink>(
         → All (λ name. IsSome (D.holds depot.old name)) (files_of request.options)
         → outcome (map string_bytes words.now) (record { holds = D.holds depot.old; given = D.given depot.new; rose = λ name. ⊥ }) ended
         → EndsOrMemory result (status_of ended) }
+
+    // A publication that ends with status 0 writes a kernel in which every old triple stands, each kept new observation
+    // lies within the tolerance, time falls only at joins where the old kernel fell, and a new triple begins only where
+    // the partition changes or no rate allowed from the ended anchor meets its observations and the next.
+    ensures headline { (request : Asked) (leap_bytes : Option (List ℕ)) (kernel_bytes observation_bytes : List ℕ)
+        → requested_by (codes "station" ∷ map string_bytes words.now) (Ok request)
+        → request.command ≡ Command.Publish → result ≡ Status.Done
+        → AreHeld (D.holds depot.old) request.options leap_bytes kernel_bytes observation_bytes
+        → (written : List ℕ) × Appends (S.written out.old) (S.written out.new) written
+        × IsPublished request.options leap_bytes kernel_bytes observation_bytes written }
 
     // Want of memory is status 9, and no other status carries it.
     ensures apart { CarriesNoMemory result }

@@ -5,6 +5,7 @@ use Rattle.sk_status.specs.Written.{Written}
 use Rattle.station.specs.Files.{Source}
 use Rattle.station.proofs.Moves.{over}
 use Rattle.station.proofs.Complete.{completed}
+use Rattle.station.proofs.Published.{headline}
 use Rattle.station.proofs.top.run.Goals as goal
 
 pub returns-clause-complete : goal.returns-clause-complete
@@ -17,3 +18,11 @@ returns-clause-complete g c = λ request ended asked calm quiet known comes.
     completed (map string_bytes c.args.words.now) request source silent out c.ended-status.result ended
     (record { holds = λ name. refl; rose = λ name r. absurd r; given = refl })
     calm quiet asked known c.ended-status.ensures.ends comes
+
+pub returns-clause-headline : goal.returns-clause-headline
+returns-clause-headline g c = λ request leap_bytes kernel_bytes observation_bytes asked command done held.
+    let depot = g.D.Depot in
+    let sink = g.S.Sink in
+    let source : Source = over (depot.holds c.args.depot.now) (depot.given c.ended-status.new.depot) (depot.faults c.args.depot.now) (depot.faults c.ended-status.new.depot) in
+    let out : Written = record { before = sink.written c.args.out.now; after = sink.written c.ended-status.new.out; rose = Rose (sink.faults c.args.out.now) (sink.faults c.ended-status.new.out) } in
+    headline (map string_bytes c.args.words.now) request source out c.ended-status.result leap_bytes kernel_bytes observation_bytes c.ended-status.ensures.ends asked command done held
