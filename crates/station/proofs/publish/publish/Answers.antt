@@ -1,10 +1,9 @@
-use Rattle.std.proofs.Common.{◌≡◌, ◌∙◌, ℕ, ◌≤◌, List, Option, Ok, Err, Vec, Global, refl, sym, ap, subst, arith}
+use Rattle.std.proofs.Common.{◌∙◌, ℕ, List, Option, Ok, sym, arith}
 use Rattle.sk_leap.specs.declared.pair.LeapPair.{LeapPair}
 use Rattle.sk_clock.specs.Row.{RowView}
 use Rattle.sk_words.specs.Asked.{options_in}
 use Rattle.sk_words.specs.Request.{Options}
 use Rattle.sk_status.specs.declared.status.Status.{Status}
-use Rattle.station.specs.Stage.{MayAnswer}
 use Rattle.station.specs.Files.{Source, KernelRead, observation_file}
 use Rattle.station.specs.Publishing.{after_rows}
 use Rattle.station.proofs.Moves.{may_then, may_end_as, handed_on, over, moves_over, Moves, observations_kept, Keeps, observations_move}

@@ -1,10 +1,7 @@
-use Rattle.std.proofs.Common.{◌≡◌, ◌++◌, ℕ, List, Ok, Some, ap, sym, subst, ◌∙◌}
+use Rattle.std.proofs.Common.{◌≡◌, List, Ok, Some, subst}
 use Rattle.sk_clock.specs.Row.{RowView}
-use Rattle.sk_triples.specs.Terms.{TripleView}
-use Rattle.sk_triples.specs.Kernel.{TriplesView}
 use Rattle.sk_words.specs.Asked.{options_in}
 use Rattle.station.specs.Files.{KernelRead}
-use Rattle.station.specs.Output.{new_kernel}
 use Rattle.sk_report.specs.Report.{table_of}
 use Rattle.station.specs.Outcome.{all_covered}
 use Rattle.station.specs.Publishing.{after_chain}
