@@ -1,10 +1,9 @@
 -- A document that bytes spell is valid, and so it is with the block of a publication behind it.
-use Rattle.std.proofs.Common.{◌≡◌, ℕ, ◌<◌, ◌≤◌, false, List, [], ◌∷◌, ◌++◌, length, Option, Some, None, refl, sym, subst, inl, inr, arith}
+use Rattle.std.proofs.Common.{◌≡◌, ℕ, ◌<◌, ◌≤◌, false, List, [], ◌∷◌, length, Option, Some, None, refl, sym, subst, inl, inr, arith}
 use Rattle.std.proofs.lemmas.Bool.{cases_Bool}
 use Rattle.std.proofs.lemmas.List.Elements.{All-nil, All-cons, All-push, All-append}
 use Rattle.std.specs.Prelude.{All, IfSome, codes, ◌==◌}
 use Rattle.std.specs.List.{list_any, flat_map, slice_split, AllByRecursion}
-use Rattle.sk_grammar.specs.declared.value.Value.{Value}
 use Rattle.sk_grammar.specs.declared.value.Value.TheVariants.{Date}
 use Rattle.sk_grammar.specs.declared.value.Op.TheVariants.{Set}
 use Rattle.sk_grammar.specs.Lines.{lines, lines_of_parts, is_line_feed}

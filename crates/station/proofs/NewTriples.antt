@@ -1,5 +1,5 @@
 -- The new triples of a publication.
-use Rattle.std.proofs.Common.{◌≡◌, ℕ, List, [], ◌∷◌, ◌++◌, map, drop, refl, sym, ap, ◌∙◌}
+use Rattle.std.proofs.Common.{◌≡◌, ℕ, List, [], ◌∷◌, map, drop, refl, sym, ap, ◌∙◌}
 use Rattle.std.specs.Prelude.{flat_map}
 use Rattle.sk_triples.specs.Terms.{Sight, TripleView}
 use Rattle.sk_triples.specs.Chain.{SegmentView, new_triples}

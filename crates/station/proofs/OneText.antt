@@ -1,13 +1,12 @@
 -- The options and the files determine what is published.
-use Rattle.std.proofs.Common.{◌≡◌, ℕ, List, [], ◌∷◌, ◌++◌, Option, Some, None, Result, Ok, refl, sym, ap, subst, ◌∙◌}
+use Rattle.std.proofs.Common.{◌≡◌, ℕ, List, [], ◌∷◌, ◌++◌, Option, Some, None, Result, Ok, sym, ap, subst, ◌∙◌}
 use Rattle.sk_grammar.specs.Document.{DocView}
 use Rattle.sk_grammar.specs.Canonical.{canonical_text}
-use Rattle.sk_grammar.specs.Variables.{VariableView, variables_of, items_of}
+use Rattle.sk_grammar.specs.Variables.{variables_of, items_of}
 use Rattle.sk_clock.specs.Clock.{ClockView}
 use Rattle.sk_clock.specs.Row.{RowView}
 use Rattle.sk_leap.specs.declared.pair.LeapPair.{LeapPair}
-use Rattle.sk_triples.specs.Terms.{Sight, TripleView, sights}
-use Rattle.sk_triples.specs.Chain.{SegmentView}
+use Rattle.sk_triples.specs.Terms.{TripleView, sights}
 use Rattle.sk_triples.specs.Kernel.{TriplesView}
 use Rattle.sk_triples.specs.Kept.{IsPublication}
 use Rattle.sk_triples.proofs.Sorting.{one_publication}
@@ -15,7 +14,7 @@ use Rattle.sk_fit.specs.Given.{terms_of}
 use Rattle.sk_fit.specs.Causes.{input}
 use Rattle.sk_fit.proofs.OneAnswer.{one_last}
 use Rattle.sk_words.specs.Request.{Options}
-use Rattle.station.specs.Files.{KernelRead, LeapOf, ClockOf, TriplesOf, ObservationsOf, sc_of}
+use Rattle.station.specs.Files.{LeapOf, ClockOf, TriplesOf, ObservationsOf, sc_of}
 use Rattle.station.specs.Output.{settings_of}
 use Rattle.station.specs.Headline.{GivePairs, IsPublished, OneText, doc_with}
 use Rattle.station.proofs.OneAnswer.{doc_one, leap_one, clock_one, triples_one}

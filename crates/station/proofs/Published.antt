@@ -1,23 +1,23 @@
 -- What is published is a kernel with all that a publication promises.
-use Rattle.std.proofs.Common.{◌≡◌, ◌⊎◌, ℕ, ◌^◌, ◌<◌, ◌≤◌, List, [], ◌∷◌, ◌++◌, length, Option, Some, None, Result, Ok, Err, refl, sym, ap, subst, ◌∙◌, inl, inr, arith, length-append}
+use Rattle.std.proofs.Common.{◌≡◌, ◌⊎◌, ℕ, ◌^◌, ◌<◌, ◌≤◌, List, [], ◌∷◌, ◌++◌, length, Option, Some, None, Result, Ok, refl, sym, ap, subst, ◌∙◌, inl, inr, arith, length-append}
 use Rattle.std.proofs.lemmas.Bool.{cases_order}
 use Rattle.std.proofs.lemmas.List.Elements.{All-weaker}
 use Rattle.std.specs.Io.KnownBytes.{Appends}
-use Rattle.std.specs.Prelude.{ℤ, pos, ◌<ℤ◌, All, IfSome, IsSome, codes, flat_map}
+use Rattle.std.specs.Prelude.{ℤ, pos, ◌<ℤ◌, All, IfSome, codes, flat_map}
 use Rattle.std.specs.List.{AllByRecursion}
 use Rattle.sk_grammar.specs.Document.{ItemView, BlockView, DocView, IsDoc, IsTextLine}
 use Rattle.sk_grammar.specs.Variables.{VariableView, variables_of, items_of}
 use Rattle.sk_grammar.specs.Spelling.{Spells}
 use Rattle.sk_grammar.specs.Canonical.{canonical_text}
 use Rattle.sk_grammar.proofs.CanonicalLines.{canonical_spelled}
-use Rattle.sk_clock.specs.Clock.{ClockView, IsClock, ticks_per, total}
+use Rattle.sk_clock.specs.Clock.{IsClock, ticks_per, total}
 use Rattle.sk_clock.specs.Row.{RowView, AreRows}
 use Rattle.sk_leap.specs.declared.pair.LeapPair.{LeapPair}
 use Rattle.sk_obs.specs.Observation.{IsId}
 use Rattle.sk_triples.specs.Terms.{Sight, TripleView, Terms, sights, partition_at}
 use Rattle.sk_triples.specs.Line.{FallsOver}
 use Rattle.sk_triples.specs.Chain.{SegmentView, EachFollowed, FirstAndLater, IsMaximal, IsOldRate, IsGridRate, AreMaximal, new_triples, first_or, covered_by}
-use Rattle.sk_triples.specs.Kernel.{TriplesView, IsTriple, Rise, AreTriples, AreKept}
+use Rattle.sk_triples.specs.Kernel.{IsTriple, Rise, AreTriples, AreKept}
 use Rattle.sk_triples.specs.Laws.{IsWithinTolerance}
 use Rattle.sk_triples.specs.Table.{kernel_view, table_lines}
 use Rattle.sk_triples.specs.Published.{published_block, triple_values, appended}
@@ -211,8 +211,7 @@ pairs_of : (source : Source) (name bytes : Option (List ℕ)) (pairs : List Leap
 pairs_of source None bytes pairs h held = let none : pairs ≡ [] = cc in subst (λ (b : Option (List ℕ)). GivePairs b pairs) (sym held) none
 pairs_of source (Some name) None pairs h held = cc
 pairs_of source (Some name) (Some bytes) pairs h held =
-    let same : h.1.0 ≡ bytes = read_is (source.holds name) h.1.0 bytes h.1.1.1 held.0 in
-    (
+    let same : h.1.0 ≡ bytes = read_is (source.holds name) h.1.0 bytes h.1.1.1 held.0 in (
       h.0,
       subst (λ (b : List ℕ). Spells b h.0) same h.1.2,
       (h.2.1.0, refl),

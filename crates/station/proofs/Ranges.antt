@@ -1,5 +1,5 @@
 -- The clock, the triples and the observations of files that are not refused are in the ranges of their types.
-use Rattle.std.proofs.Common.{◌≡◌, ◌⊎◌, ℕ, ◌+◌, ◌*◌, ◌^◌, ◌<◌, ◌≤◌, Bool, true, false, List, [], ◌∷◌, ◌++◌, length, Option, Some, None, Ok, refl, sym, ap, subst, ◌∙◌, inl, inr, arith, append_assoc, append-nil}
+use Rattle.std.proofs.Common.{◌≡◌, ◌⊎◌, ℕ, ◌+◌, ◌*◌, ◌^◌, ◌<◌, ◌≤◌, Bool, true, false, List, [], ◌∷◌, ◌++◌, length, Option, Some, None, Ok, refl, sym, subst, ◌∙◌, inl, inr, arith, append_assoc, append-nil}
 use Rattle.std.proofs.lemmas.Bool.{cases_lt}
 use Rattle.std.proofs.lemmas.Int.{ints}
 use Rattle.std.proofs.lemmas.List.Elements.{All-nil, All-cons}
@@ -9,7 +9,6 @@ use Rattle.std.specs.Int.{IsInRange}
 use Rattle.std.specs.Option.{IsSomeAnd}
 use Rattle.std.specs.List.{AllZip, AllByRecursion, list_all}
 use Rattle.sk_checks.specs.Checks.{Check, ◌⇒◌, NoneRefuses, each_after}
-use Rattle.sk_decimal.specs.Fixed.{HasUnits, units_of}
 use Rattle.sk_grammar.specs.Variables.{VariableView}
 use Rattle.sk_clock.specs.declared.fault.ClockName.TheVariants as name
 use Rattle.sk_clock.specs.Clock.{ClockView, IsClock, total}
@@ -17,7 +16,6 @@ use Rattle.sk_clock.specs.Kernel.{IsOneFrom, name_of}
 use Rattle.sk_clock.specs.Row.{RowView, AreRows, IsObservedTime}
 use Rattle.sk_clock.proofs.KernelLemmas.{same_number}
 use Rattle.sk_leap.specs.declared.pair.LeapPair.{LeapPair}
-use Rattle.sk_obs.specs.declared.fault.ObsFault.{ObsFault}
 use Rattle.sk_obs.specs.declared.fault.ObsFault.TheVariants.{TimeRange, BadDelay, OutOfOrder}
 use Rattle.sk_obs.specs.Observation.{IsId, is_id_byte}
 use Rattle.sk_obs.specs.Words.{IsClockWord, time_word, time_checks}
@@ -27,7 +25,7 @@ use Rattle.sk_obs.proofs.Laws.{IsClockWord-within}
 use Rattle.sk_obs.proofs.Progress.{HasRows, IsAbove, no_rows, one_more}
 use Rattle.sk_triples.specs.Terms.{TripleView}
 use Rattle.sk_triples.specs.Kernel.{TriplesView, IsTriple, Rise}
-use Rattle.sk_triples.specs.Coefficients.{Row, IsRowTime, IsRowRate, IsTickUpTo, row_checks, rows_of, values_for, IsTripleOf}
+use Rattle.sk_triples.specs.Coefficients.{Row, row_checks, rows_of, values_for, IsTripleOf}
 use Rattle.sk_triples.specs.Reading.{ArePair, Follows}
 use Rattle.sk_triples.proofs.Decimals.{large_time, low_rate, large_rate, abs_from, abs_to}
 use Rattle.sk_triples.proofs.ReadRows.{out_of_order}

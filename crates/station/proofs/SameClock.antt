@@ -1,5 +1,5 @@
 -- A kernel with the block of a publication behind it has the same clock, and no item of it mixes kinds.
-use Rattle.std.proofs.Common.{◌≡◌, ◌⊎◌, ℕ, ◌+◌, Bool, true, false, List, [], ◌∷◌, ◌++◌, length, Option, Some, None, Result, Ok, Err, refl, sym, ap, subst, ◌∙◌, inl, inr, append_assoc, append-nil}
+use Rattle.std.proofs.Common.{◌≡◌, ℕ, ◌+◌, Bool, true, false, List, [], ◌∷◌, ◌++◌, length, Option, Some, None, Result, Ok, Err, refl, sym, ap, subst, ◌∙◌, inl, inr, append_assoc, append-nil}
 use Rattle.std.proofs.lemmas.Bool.{cases_Bool}
 use Rattle.std.specs.Prelude.{unwrap_or, not, codes, ◌&&◌}
 use Rattle.std.specs.List.{list_any, flat_map}
@@ -14,14 +14,14 @@ use Rattle.sk_grammar.specs.Document.{ItemView, DocView, is_text}
 use Rattle.sk_grammar.specs.Variables.{VariableView, items_of, variables_of, values_at, values_of, mixes}
 use Rattle.sk_pool.specs.declared.pool.PoolFault.TheVariants.{AppendMixed}
 use Rattle.sk_pool.specs.Pool.{pool_checks}
-use Rattle.sk_pool.specs.Assigning.{assigned, all_assigned, is_mixing}
+use Rattle.sk_pool.specs.Assigning.{assigned, all_assigned}
 use Rattle.sk_pool.proofs.Growing.{variables_of-push, values_at-variables_of}
 use Rattle.sk_pool.proofs.Judged.{doc_taken, doc_refused, all_assigned-append}
 use Rattle.sk_clock.specs.declared.fault.ClockName.{ClockName}
 use Rattle.sk_clock.specs.declared.fault.ClockName.TheVariants.{DataType, Fields, Moduli, Offsets, Delim, Start, End}
 use Rattle.sk_clock.specs.Clock.{ClockView}
 use Rattle.sk_clock.specs.declared.partition.Partition.{Partition}
-use Rattle.sk_clock.specs.Kernel.{clock_checks, name_of, time_system, HasModuli, HasOffsets, HasPartitions}
+use Rattle.sk_clock.specs.Kernel.{name_of, time_system, HasModuli, HasOffsets, HasPartitions}
 use Rattle.sk_triples.specs.Terms.{TripleView}
 use Rattle.sk_triples.specs.Published.{triple_values, coefficients_name, id_items, coefficient_items}
 use Rattle.station.specs.Files.{ClockOf, PoolOf}

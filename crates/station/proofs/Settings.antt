@@ -1,8 +1,8 @@
 -- The numbers of a request are in the ranges of their options.
-use Rattle.std.proofs.Common.{rules, ◌≡◌, ℕ, ◌*◌, ◌^◌, ◌<◌, ◌≤◌, Bool, true, false, cond, ◌&&◌, leb, List, Option, Some, None, Ok, refl, sym, subst, arith}
+use Rattle.std.proofs.Common.{rules, ◌≡◌, ℕ, ◌^◌, ◌<◌, ◌≤◌, Bool, true, false, cond, ◌&&◌, leb, List, Option, Some, None, Ok, refl, sym, subst, arith}
 use Rattle.std.proofs.lemmas.Bool.{false≢true}
 use Rattle.std.proofs.lemmas.Int.{ints}
-use Rattle.std.specs.Prelude.{pos, ◌≤ℤ◌, IfSome, codes, ◌++◌}
+use Rattle.std.specs.Prelude.{IfSome, codes, ◌++◌}
 use Rattle.std.specs.Option.{option_map, option_map_or}
 use Rattle.std.specs.List.{list_any}
 use Rattle.std.specs.Str.{bytes_eq}
@@ -12,7 +12,7 @@ use Rattle.sk_fit.specs.Given.{AreSettings}
 use Rattle.sk_words.specs.Words.{matches}
 use Rattle.sk_words.specs.declared.tables.OptionName.{OptionName}
 use Rattle.sk_words.specs.declared.tables.OptionName.TheVariants as opt
-use Rattle.sk_words.specs.Request.{Options, options_of, used, uses, name_of, is_in_range, is_number, is_number_in, number_or}
+use Rattle.sk_words.specs.Request.{Options, options_of, used, uses, name_of, is_in_range, is_number, is_number_in}
 use Rattle.sk_words.specs.Asked.{Request, WordsAsk, AsksFor}
 use Rattle.sk_words.proofs.Within.{given_within}
 use Rattle.station.specs.Files.{sc_of}
