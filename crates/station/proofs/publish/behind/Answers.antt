@@ -1,4 +1,4 @@
-use Rattle.std.proofs.Common.{◌≡◌, ℕ, ◌++◌, List, drop, length, sym, ap, subst, ◌∙◌}
+use Rattle.std.proofs.Common.{◌≡◌, List, drop, length, sym, ap, subst, ◌∙◌}
 use Rattle.std.specs.Prelude.{All}
 use Rattle.sk_triples.specs.Terms.{TripleView}
 use Rattle.sk_triples.specs.Kernel.{AreTriples}
@@ -15,5 +15,5 @@ returns-clause-numbers c =
     let back : added ≡ drop (length old) all = c.split_at.ensures.back ∙ ap (drop (length c.list-2.result.now)) c.list.ensures.value ∙ ap (λ (ts : List TripleView). drop (length ts) all) c.list-2.ensures.value in
     let more : added ≡ c.requires.0 = behind_old all old c.requires.0 added c.requires.1 back in
     subst (λ (ts : List TripleView). All HasNumbers ts) (sym more)
-    (new_numbers c.args.triples.now.total old c.requires.0
+    (new_numbers c.args.triples.now.total old c.requires.0 c.list.ensures.kept.total
     (subst (λ (ts : List TripleView). AreTriples c.args.triples.now.total ts) c.requires.1 c.list.ensures.kept.triples))
