@@ -56,7 +56,7 @@ text_line text t = record {
   no_marker = no_marker (is_byte_of 39) (white_is_not 39 refl) (quoted text) true refl refl refl;
 }
 
-value_line : (value : Value) → IsValue value → IsPlainLine (value_text value)
+pub value_line : (value : Value) → IsValue value → IsPlainLine (value_text value)
 value_line (Number number) valid = let t = number_text number valid in number_line (value_text (Number number)) t.bytes t.no_slash (omega (arith, t.short))
 value_line (Date date) valid = date_line date valid
 value_line (Text text) valid = text_line text valid

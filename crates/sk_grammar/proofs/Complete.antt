@@ -23,7 +23,8 @@ use Rattle.sk_grammar.specs.Lines.{is_white, is_line_feed}
 use Rattle.sk_grammar.specs.Refusal.{begins, begins_with, goes_on, run_at, name_at, AreOfKind}
 use Rattle.sk_grammar.specs.declared.place.Place.{Place}
 use Rattle.sk_grammar.specs.declared.place.Place.TheVariants.{Idle, Named, Signed, Opened, Comma, Valued, Closed}
-use Rattle.sk_grammar.specs.Reading.{◌>>=◌, text_from, value_at, further_at, added, step, end_line, read_from}
+use Rattle.sk_grammar.specs.Reading.{◌>>=◌, further_at, added, step, end_line, read_from}
+use Rattle.sk_grammar.specs.ValueReading.{text_from, value_at}
 use Rattle.sk_grammar.proofs.Lists.{append-[], take-length-append, drop-length-append, take_while-append, differs, differs_from, all_first, all_rest, none_if_all, none_first, none_rest}
 
 -- a text and its closing quote

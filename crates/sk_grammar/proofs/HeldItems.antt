@@ -1,6 +1,6 @@
 -- Items are read back from their lines.
 use Rattle.std.proofs.Common.{◌≡◌, ℕ, ◌+◌, ◌<◌, ◌≤◌, suc, List, [], ◌∷◌, ◌++◌, length, Bool, true, false, ◌||◌, refl, ap, sym, ◌∙◌, append_assoc, subst, arith, length-append, Ok, Err, Result}
-use Rattle.std.specs.List.{All, list_all, list_any, flat_map, join_with_byte, slice_split, onto_first}
+use Rattle.std.specs.List.{All, list_all, list_any, flat_map, join_with_byte}
 use Rattle.std.proofs.lemmas.List.Concat.{flat_map-append}
 use Rattle.std.proofs.lemmas.List.Elements.{All-push, All-nil, All-cons}
 use Rattle.std.specs.Prelude.{IfOk}
@@ -24,7 +24,8 @@ use Rattle.sk_grammar.proofs.AllRead.{LineRead, line_read}
 use Rattle.sk_grammar.proofs.CanonicalLines.{item_feeds}
 use Rattle.sk_grammar.proofs.Leaves.{item_of}
 use Rattle.sk_grammar.proofs.Lists.{append-[], or_parts}
-use Rattle.sk_grammar.proofs.Pieces.{split_lines, split_line, split_some, ended-cons}
+use Rattle.sk_grammar.proofs.HeldLines.{held_front, none_held}
+use Rattle.sk_grammar.proofs.Pieces.{split_lines}
 use Rattle.sk_grammar.proofs.Sound.{bind_ok}
 use Rattle.sk_grammar.proofs.Written.{item_written}
 
@@ -160,19 +161,6 @@ front_valid [] more all = All-nil IsItem
 front_valid (item ∷ items) more all =
     let v = first_valid item (items ++ more) all in
     All-cons IsItem item items v.0 (front_valid items more v.1)
-
-held_front : (rest line behind : List ℕ) → IsSplitAtFeed rest line behind → held_lines rest ≡ line ∷ held_lines behind
-held_front rest line behind split =
-    ap held_lines split.joined ∙ ap ended_parts (split_line line behind split.one_line) ∙ ended-cons line (slice_split is_line_feed behind) (split_some behind)
-
-one_part : (rest : List ℕ) → list_any is_line_feed rest ≡ false → slice_split is_line_feed rest ≡ rest ∷ []
-one_part [] none = refl
-one_part (byte ∷ rest) none =
-    let parts = or_parts (is_line_feed byte) (list_any is_line_feed rest) none in
-    rw parts.0 (ap (onto_first byte) (one_part rest parts.1))
-
-pub none_held : (rest : List ℕ) → list_any is_line_feed rest ≡ false → held_lines rest ≡ []
-none_held rest none = ap ended_parts (one_part rest none)
 
 -- the line in front is read, and leaves the others
 pub next_line : (rest line behind : List ℕ) (items all : List ItemView) (place : Place) → IsSplitAtFeed rest line behind → items_of_lines items place (held_lines rest) ≡ Ok all

@@ -35,5 +35,6 @@ pub mod Rows
 pub mod PlainTexts
 pub mod PlainLines
 pub mod CanonicalLines
-pub mod WrittenRows
 pub mod HeldItems
+pub mod HeldValues
+pub mod Threes

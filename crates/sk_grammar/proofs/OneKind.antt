@@ -30,7 +30,7 @@ first_of_kind held values kind one =
       | inr other ↦ rw other refl
     ]
 
-kind_more : (values : List Value) (value : Value) → AreOfKind (is_text value) values → AreOfOneKind (values ++ value ∷ [])
+pub kind_more : (values : List Value) (value : Value) → AreOfKind (is_text value) values → AreOfOneKind (values ++ value ∷ [])
 kind_more values value all = kind_of (is_text value) (values ++ value ∷ []) (kind_push values value all)
 
 pub first_speaks : (values : List Value) (held : Value) (kind : Bool) → 1 ≤ length values → held ≡ get_or values 0 held → AreOfOneKind values → beq (is_text held) kind ≡ list_all (λ v. beq (is_text v) kind) values

@@ -18,7 +18,8 @@ use Rattle.sk_grammar.specs.Spelling.{SpellsOpening, SpellsValue, SpellsValues, 
 use Rattle.sk_grammar.specs.Refusal.{Due, NameDue, SignDue, BodyDue, FirstDue, NextDue, MoreDue, NothingDue, HasQuoted, BeginsWithValue, IsValueDue, HoldsKind, kind_after_comma, kind_after_value, IsMisplaced, no_name, long_name, no_sign, no_number, end_outside, vector_inside, wide_number, open_text, long_text, bare_date, long_date, other_kind, comma_first, end_behind_comma, empty_vector, behind_value, LeavesDue, SpellsOpenVector, AreOfKind, begins, begins_with, goes_on, run_at, name_at}
 use Rattle.sk_grammar.specs.declared.place.Place.{Place}
 use Rattle.sk_grammar.specs.declared.place.Place.TheVariants.{Idle, Named, Signed, Opened, Comma, Valued, Closed}
-use Rattle.sk_grammar.specs.Reading.{◌>>=◌, text_from, text_value, run_value, number_value, added, value_at, step, read_from}
+use Rattle.sk_grammar.specs.Reading.{◌>>=◌, added, step, read_from}
+use Rattle.sk_grammar.specs.ValueReading.{text_from, text_value, run_value, number_value, value_at}
 use Rattle.sk_decimal.proofs.Forms.{is_number_byte, numeral_bytes, numeral_length}
 use Rattle.sk_grammar.proofs.Complete as complete
 use Rattle.sk_grammar.proofs.Lists.{differs, differs_from, all_first, or_parts, none_first, none_rest}
@@ -200,7 +201,7 @@ pub record Quotes (bytes text : List ℕ) : Type 0 where
   pub joined : bytes ≡ (flat_map doubled text ++ codes "'") ++ after
   pub ended : begins (goes_on true) after ≡ false
 
-mapped : (byte : ℕ) (o : Option (List ℕ)) (text : List ℕ) → option_map (λ t. byte ∷ t) o ≡ Some text → (t : List ℕ) × (o ≡ Some t) × (byte ∷ t ≡ text)
+pub mapped : (byte : ℕ) (o : Option (List ℕ)) (text : List ℕ) → option_map (λ t. byte ∷ t) o ≡ Some text → (t : List ℕ) × (o ≡ Some t) × (byte ∷ t ≡ text)
 mapped byte None text h = absurd (cc h)
 mapped byte (Some t) text h = (t, refl, cc h)
 

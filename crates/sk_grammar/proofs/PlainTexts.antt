@@ -5,7 +5,7 @@ use Rattle.std.specs.Prelude.{◌==◌, option_map}
 use Rattle.std.proofs.lemmas.Bool.{cases_Bool}
 use Rattle.sk_grammar.specs.Document.{doubled}
 use Rattle.sk_grammar.specs.Quotes.{is_plain}
-use Rattle.sk_grammar.specs.Reading.{text_from, ended_text}
+use Rattle.sk_grammar.specs.ValueReading.{text_from, ended_text}
 use Rattle.sk_grammar.proofs.Lists.{or_parts}
 
 -- the bytes in front are the text, and the quote behind them ends it

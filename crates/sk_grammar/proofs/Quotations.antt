@@ -13,7 +13,7 @@ use Rattle.sk_grammar.specs.Stopping.{Gives}
 use Rattle.sk_grammar.specs.declared.fault.Reason.{Reason}
 use Rattle.sk_grammar.specs.declared.fault.Reason.TheVariants.{TextOpen, TextTooLong}
 use Rattle.sk_grammar.specs.Document.{doubled, quoted}
-use Rattle.sk_grammar.specs.Reading.{text_from, ended_text, text_value}
+use Rattle.sk_grammar.specs.ValueReading.{text_from, ended_text, text_value}
 
 -- so many bytes have been read as this front of the text; the flag is set behind a quote that may end it
 pub record IsReadAs (bytes front : List ℕ) (flag : Bool) (at : ℕ) : Type 0 where

@@ -24,7 +24,8 @@ use Rattle.std.proofs.lemmas.Bool.{eqb-false}
 use Rattle.sk_grammar.specs.Refusal.{Due, NameDue, SignDue, BodyDue, FirstDue, NextDue, MoreDue, NothingDue, AreOfKind, HoldsKind, HasQuoted, BeginsWithValue, IsValueDue, IsInVector, value_after_sign, value_after_opening, value_after_comma, value_after_value, in_vector_after_opening, in_vector_after_comma, in_vector_after_value, behind_sign, behind_opening, behind_comma, kind_after_comma, kind_after_value, IsMisplaced, no_name, long_name, no_sign, no_number, end_outside, vector_inside, wide_number, open_text, long_text, bare_date, long_date, other_kind, comma_first, end_behind_comma, empty_vector, behind_value, begins, begins_with, run_at, name_at}
 use Rattle.sk_grammar.specs.declared.place.Place.{Place}
 use Rattle.sk_grammar.specs.declared.place.Place.TheVariants.{Named, Signed, Opened, Comma, Valued, Closed}
-use Rattle.sk_grammar.specs.Reading.{◌>>=◌, text_from, text_value, run_value, number_value, value_at, added, further_at, step}
+use Rattle.sk_grammar.specs.Reading.{◌>>=◌, added, further_at, step}
+use Rattle.sk_grammar.specs.ValueReading.{text_from, text_value, run_value, number_value, value_at}
 use Rattle.sk_grammar.proofs.Complete as complete
 use Rattle.sk_grammar.proofs.Places as places
 

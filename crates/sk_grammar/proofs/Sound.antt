@@ -23,7 +23,8 @@ use Rattle.sk_grammar.specs.Spelling.{IsWhite, IsGap, IsSeparator, is_gap_byte, 
 use Rattle.sk_grammar.specs.Refusal.{Due, LeavesDue, IsMisplaced, AreOfKind, begins, begins_with, goes_on, name_at}
 use Rattle.sk_grammar.specs.declared.place.Place.{Place}
 use Rattle.sk_grammar.specs.declared.place.Place.TheVariants.{Idle, Named, Signed, Opened, Comma, Valued, Closed}
-use Rattle.sk_grammar.specs.Reading.{◌>>=◌, value_at, added, further_at, step, read_from}
+use Rattle.sk_grammar.specs.Reading.{◌>>=◌, added, further_at, step, read_from}
+use Rattle.sk_grammar.specs.ValueReading.{value_at}
 use Rattle.sk_grammar.proofs.Complete as complete
 use Rattle.sk_grammar.proofs.Places as places
 use Rattle.sk_grammar.proofs.Refused as refused

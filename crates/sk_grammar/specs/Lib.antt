@@ -5,6 +5,7 @@ pub mod Refusal
 pub mod Canonical
 pub mod Variables
 pub mod Answers
+pub mod ValueReading
 pub mod Reading
 pub mod Fold
 pub mod HasTaken
@@ -17,3 +18,4 @@ pub mod DataLines
 pub mod Quotes
 pub mod Writing
 pub mod HeldItems
+pub mod HeldValues

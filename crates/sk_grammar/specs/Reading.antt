@@ -1,68 +1,30 @@
 -- Reading data lines token by token: what the code computes.
-use Rattle.std.specs.Prelude.{ℕ, zero, suc, ◌+◌, ◌-◌, Bool, true, false, ◌||◌, nat_lt, List, [], ◌∷◌, ◌++◌, length, Option, Some, None, option_map, Result, Ok, Err, codes, ◌==◌, if◌then◌else◌}
-use Rattle.std.specs.List.{list_all, flat_map}
+use Rattle.std.specs.Prelude.{ℕ, zero, suc, ◌+◌, ◌-◌, Bool, true, false, ◌||◌, nat_lt, List, [], ◌∷◌, ◌++◌, length, Result, Ok, Err, codes, ◌==◌, if◌then◌else◌}
+use Rattle.std.specs.List.{list_all}
 use Rattle.std.specs.Bool.{beq}
 use Rattle.sk_decimal.specs.Number.{DecimalView}
 use Rattle.sk_decimal.specs.declared.decimal.NumberFault.{NumberFault}
-use Rattle.sk_decimal.specs.declared.decimal.NumberFault.TheVariants.{NotNumber, TooWide}
 use Rattle.sk_grammar.specs.declared.value.Value.{Value}
-use Rattle.sk_grammar.specs.declared.value.Value.TheVariants.{Number, Date, Text}
 use Rattle.sk_grammar.specs.declared.value.Op.{Op}
 use Rattle.sk_grammar.specs.declared.value.Op.TheVariants.{Set, Append}
 use Rattle.sk_grammar.specs.declared.fault.Reason.{Reason}
-use Rattle.sk_grammar.specs.declared.fault.Reason.TheVariants.{BadName, NoAssign, BadNumber, NumberTooWide, TextOpen, TextTooLong, BadDate, MixedKinds, BadComma, EmptyVector, AfterValue}
+use Rattle.sk_grammar.specs.declared.fault.Reason.TheVariants.{BadName, NoAssign, BadNumber, MixedKinds, BadComma, EmptyVector, AfterValue}
 use Rattle.sk_grammar.specs.declared.place.Place.{Place}
 use Rattle.sk_grammar.specs.declared.place.Place.TheVariants.{Idle, Named, Signed, Opened, Comma, Valued, Closed}
 use Rattle.sk_grammar.specs.Lines.{is_white}
-use Rattle.sk_grammar.specs.Document.{is_text, doubled, quoted}
-use Rattle.sk_grammar.specs.Refusal.{name_at, run_at, begins_with}
+use Rattle.sk_grammar.specs.Document.{is_text}
+use Rattle.sk_grammar.specs.Refusal.{name_at, begins_with}
+use Rattle.sk_grammar.specs.ValueReading.{value_at}
 
 infixl 10 ◌>>=◌
 abbrev pub ◌>>=◌ : {A B : Type 0} → Result A Reason → (A → Result B Reason) → Result B Reason
 (Ok x) >>= f = f x
 (Err e) >>= f = Err e
 
--- the text whose spelling stands at the front, behind its first quote, if it ends on its line; the flag is set behind a later quote
-abbrev pub text_from : Bool → List ℕ → Option (List ℕ)
-text_from false [] = None
-text_from true [] = Some []
-text_from false (byte ∷ bytes) =
-    if byte == 39 then text_from true bytes
-    else if byte == 10 then None
-    else option_map (λ text. byte ∷ text) (text_from false bytes)
-text_from true (byte ∷ bytes) = if byte == 39 then option_map (λ text. byte ∷ text) (text_from false bytes) else Some []
-
--- that text, and how many bytes its spelling takes behind the first quote
-abbrev pub ended_text : Option (List ℕ) → Result (List ℕ × ℕ) Reason
-ended_text None = Err TextOpen
-ended_text (Some text) = Ok (text, length (flat_map doubled text) + 1)
-
-abbrev pub date_of : List ℕ → Result (Value × ℕ) Reason
-date_of run = if length run == 1 || nat_lt 80 (length run) then Err BadDate else Ok (Date run, length run)
-
 module _ (number_of : List ℕ → Result DecimalView NumberFault) where
-  abbrev pub text_value : Option (List ℕ) → Result (Value × ℕ) Reason
-  text_value None = Err TextOpen
-  text_value (Some text) = if nat_lt 80 (length text) then Err TextTooLong else Ok (Text text, length (quoted text))
-
-  abbrev pub number_value : List ℕ → Result DecimalView NumberFault → Result (Value × ℕ) Reason
-  number_value run (Ok number) = Ok (Number number, length run)
-  number_value run (Err NotNumber) = Err BadNumber
-  number_value run (Err TooWide) = Err NumberTooWide
-
-  abbrev pub run_value : List ℕ → Result (Value × ℕ) Reason
-  run_value run =
-      if begins_with (codes "@") run then date_of run
-      else number_value run (number_of run)
-
-  -- the value at the front, and how many bytes it takes
-  abbrev pub value_at : List ℕ → Result (Value × ℕ) Reason
-  value_at [] = Err BadNumber
-  value_at (byte ∷ bytes) = if byte == 39 then text_value (text_from false bytes) else run_value (run_at (byte ∷ bytes))
-
   -- the one value of an item
   abbrev pub single_at : List ℕ → Op → List ℕ → Result (Place × ℕ) Reason
-  single_at name op bytes = value_at bytes >>= λ v. Ok (Closed name op (v.0 ∷ []), v.1)
+  single_at name op bytes = value_at number_of bytes >>= λ v. Ok (Closed name op (v.0 ∷ []), v.1)
 
   -- a further value of a vector has the kind of the first ones
   abbrev pub added : List Value → Value → Result (List Value) Reason
@@ -70,7 +32,7 @@ module _ (number_of : List ℕ → Result DecimalView NumberFault) where
       if list_all (λ held. beq (is_text held) (is_text value)) values then Ok (values ++ value ∷ []) else Err MixedKinds
 
   abbrev pub further_at : List ℕ → Op → List Value → List ℕ → Result (Place × ℕ) Reason
-  further_at name op values bytes = value_at bytes >>= λ v. added values v.0 >>= λ vs. Ok (Valued name op vs, v.1)
+  further_at name op values bytes = value_at number_of bytes >>= λ v. added values v.0 >>= λ vs. Ok (Valued name op vs, v.1)
 
   -- the next token, at the front of bytes that begin with no white space, and how many bytes it takes
   abbrev pub step : Place → List ℕ → Result (Place × ℕ) Reason
@@ -83,7 +45,7 @@ module _ (number_of : List ℕ → Result DecimalView NumberFault) where
       if begins_with (codes "(") bytes then Ok (Opened name op, 1)
       else if begins_with (codes ",") bytes then Err BadComma
       else if begins_with (codes ")") bytes then Err BadNumber
-      else (value_at bytes >>= λ v. Ok (Closed name op (v.0 ∷ []), v.1))
+      else (value_at number_of bytes >>= λ v. Ok (Closed name op (v.0 ∷ []), v.1))
   step (Opened name op) bytes =
       if begins_with (codes "(") bytes then Err BadNumber
       else if begins_with (codes ",") bytes then Err BadComma

@@ -3,13 +3,12 @@
 ghost use Rattle.std.specs.Prelude.{◌≡◌, ◌+◌, ◌++◌, [], ◌∷◌, ◌^◌, ◌<◌, List as Sequence, ℕ, Ok, Err, IfOk, IfErr, OnOk, OnErr, false, count_by};
 ghost use Rattle.sk_grammar.specs.declared.state.State.TheVariants.{InData as AtData};
 ghost use Rattle.sk_grammar.specs.DataLines.{AreReached, AreReachedAt, GivesPlace, TakesDataLines, RefusesDataLines};
-ghost use Rattle.sk_grammar.specs.Document.{BlockView};
+ghost use Rattle.sk_grammar.specs.Document.{BlockView, IsItem};
 ghost use Rattle.sk_grammar.specs.Fold.{take_line as taken_line, end_data};
 ghost use Rattle.sk_grammar.specs.Lines.{is_line_feed, begins_data as begins_data_line, begins_text as begins_text_line};
 ghost use Rattle.sk_grammar.specs.Taken.{taken_of, TakesPiece, HasComeTo};
 ghost use Rattle.sk_grammar.specs.Valid.{IsClosedItem, IsReached};
 
-use crate::document::Item;
 use crate::fault::{GrammarFault, Reason};
 use crate::items::Items;
 use crate::lines::{begins_data, begins_text, has_bad_byte, without_white};
@@ -18,15 +17,24 @@ use crate::reading::read_line;
 use crate::state::State;
 use crate::stop::Stop;
 use crate::taking::{Taking, split_line, without_returns};
+use crate::value::Op;
+use crate::values::Values;
 use std::alloc::{AllocError, Global};
 use std::mem;
 
 /// Puts the item last.
-fn add_item(alloc: Global, items: &mut Items, item: &Item) -> Result<(), AllocError>
-    ensures { OnOk result (items.new ≡ items.old ++ item.now ∷ []) }
+fn add_item(
+    alloc: Global,
+    items: &mut Items,
+    name: &[u8],
+    op: Op,
+    values: &Values,
+) -> Result<(), AllocError>
+    requires { IsItem (record { name = name.now; op = op; values = values.now }) }
+    ensures { OnOk result (items.new ≡ items.old ++ record { name = name.now; op = op; values = values.now } ∷ []) }
 {
     let held = mem::replace(items, Items::new(alloc));
-    *items = held.with_item(item)?;
+    *items = held.with_values(name, op, values)?;
     Ok(())
 }
 
@@ -37,13 +45,10 @@ fn end_line(alloc: Global, items: &mut Items, place: Place) -> Result<Place, Sto
 {
     match place {
         Place::Named(_) => Err(Stop::Refused(Reason::NoAssign)),
-        Place::Closed(name, op, values) => {
-            let values = values.into_list();
-            match add_item(alloc, items, &Item { name, op, values }) {
-                Err(_) => Err(Stop::OutOfMemory),
-                Ok(()) => Ok(Place::Idle),
-            }
-        }
+        Place::Closed(name, op, values) => match add_item(alloc, items, name.as_slice(), op, &values) {
+            Err(_) => Err(Stop::OutOfMemory),
+            Ok(()) => Ok(Place::Idle),
+        },
         open => Ok(open),
     }
 }

@@ -12,6 +12,8 @@ use crate::list::List;
 use crate::place::Place;
 use crate::reading::read_line;
 use crate::taking::split_line;
+use crate::value::Op;
+use crate::values::Values;
 use std::alloc::{AllocError, Global};
 use std::marker::Model;
 
@@ -47,7 +49,7 @@ fn take_line_of_items(
 {
     match read_line(alloc, place, line) {
         Ok(Place::Closed(name, op, values)) => {
-            let values = values.into_list();
+            let values = values.to_list(alloc)?;
             items.push(Item { name, op, values })?;
             Ok(Place::Idle)
         }
@@ -68,13 +70,27 @@ impl Items {
     }
 
     /// The items, and one more behind them.
-    pub fn with_item(self, item: &Item) -> Result<Items, AllocError>
+    pub fn with_item(self, alloc: Global, item: &Item) -> Result<Items, AllocError>
         ensures more { IfOk result (λ more. more ≡ self ++ item.now ∷ []) }
         ensures valid { IfOk result (All IsItem) }
     {
-        let _ = &item.name;
+        let values = Values::of_list(alloc, item.values.as_slice())?;
+        self.with_values(item.name.as_slice(), item.op, &values)
+    }
+
+    /// The items, and behind them that with these parts.
+    pub(crate) fn with_values(
+        self,
+        name: &[u8],
+        op: Op,
+        values: &Values,
+    ) -> Result<Items, AllocError>
+        requires { IsItem (record { name = name.now; op = op; values = values.now }) }
+        ensures more { IfOk result (λ more. more ≡ self ++ record { name = name.now; op = op; values = values.now } ∷ []) }
+        ensures valid { IfOk result (All IsItem) }
+    {
         let Items { mut text } = self;
-        write_item(&mut text, item)?;
+        write_item(&mut text, name, op, values)?;
         Ok(Items { text })
     }
 

@@ -3,6 +3,7 @@
 ghost use Rattle.std.specs.Prelude.{◌≡◌, ◌<◌, ◌≤◌, [], ◌∷◌, List, ℕ, length, true, false, IfOk, Ok};
 ghost use Rattle.std.specs.List.{list_any};
 ghost use Rattle.sk_decimal.specs.Reading.{number_of};
+ghost use Rattle.sk_grammar.specs.HeldValues.{IsHeldValue};
 ghost use Rattle.sk_grammar.specs.Lines.{is_line_feed, is_white as is_white_byte};
 ghost use Rattle.sk_grammar.specs.Reading.{read_from, step as stepped, added, single_at, further_at};
 ghost use Rattle.sk_grammar.specs.Stopping.{Gives, GivesValues, GivesPlaceAt, ReadsOn, ReadsFront};
@@ -55,10 +56,11 @@ fn closed_by(
     alloc: Global,
     name: Bytes,
     op: Op,
-    value: Value,
+    value: &Value,
     size: usize,
 ) -> Result<(Place, usize), Stop>
-    ensures { Gives result (Ok (AtClosed name op (value ∷ []), size)) }
+    requires { IsHeldValue value.now }
+    ensures { Gives result (Ok (AtClosed name op (value.now ∷ []), size)) }
 {
     match Values::of_one(alloc, value) {
         Err(_) => Err(Stop::OutOfMemory),
@@ -72,7 +74,7 @@ fn single_value(alloc: Global, name: Bytes, op: Op, bytes: &[u8]) -> Result<(Pla
 {
     match value_at(alloc, bytes) {
         Err(stop) => Err(stop),
-        Ok(value) => closed_by(alloc, name, op, value.0, value.1),
+        Ok(value) => closed_by(alloc, name, op, &value.0, value.1),
     }
 }
 
@@ -89,10 +91,11 @@ fn step_signed(alloc: Global, name: Bytes, op: Op, bytes: &[u8]) -> Result<(Plac
 }
 
 /// Puts the value behind those of a vector, which are of its kind.
-fn add(values: &mut Values, value: Value) -> Result<(), Stop>
-    ensures { GivesValues result values.new (added number_of values.old value) }
+fn add(values: &mut Values, value: &Value) -> Result<(), Stop>
+    requires { IsHeldValue value.now }
+    ensures { GivesValues result values.new (added number_of values.old value.now) }
 {
-    if !values.are_as(&value) {
+    if !values.are_as(value) {
         return Err(Stop::Refused(Reason::MixedKinds));
     }
     match values.push(value) {
@@ -107,7 +110,7 @@ fn add_value(alloc: Global, values: &mut Values, bytes: &[u8]) -> Result<usize, 
 {
     match value_at(alloc, bytes) {
         Err(stop) => Err(stop),
-        Ok(value) => match add(values, value.0) {
+        Ok(value) => match add(values, &value.0) {
             Err(stop) => Err(stop),
             Ok(()) => Ok(value.1),
         },

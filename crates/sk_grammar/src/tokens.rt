@@ -6,7 +6,7 @@ ghost use Rattle.sk_decimal.specs.Reading.{number_of};
 ghost use Rattle.sk_grammar.specs.Document.{is_name_byte, is_run_byte};
 ghost use Rattle.sk_grammar.specs.Quotes.{is_plain as is_plain_byte};
 ghost use Rattle.sk_grammar.specs.Refusal.{name_at, run_at};
-ghost use Rattle.sk_grammar.specs.Reading.{text_from, ended_text, date_of, text_value as text_of, number_value as number_in, run_value as value_of_run, value_at as value_here};
+ghost use Rattle.sk_grammar.specs.ValueReading.{text_from, ended_text, date_of, text_value as text_of, number_value as number_in, run_value as value_of_run, value_at as value_here};
 ghost use Rattle.sk_grammar.specs.Stopping.{Gives};
 
 use crate::bytes::Bytes;

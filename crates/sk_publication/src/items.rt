@@ -63,11 +63,12 @@ fn with_id(items: Items, alloc: Global, id: Option<&str>) -> Result<Items, NoMem
     };
     let name = copied(alloc, b"SCLK_KERNEL_ID")?;
     let values = id_values(alloc, id)?;
-    items.with_item(&Item {
+    let item = Item {
         name,
         op: Op::Set,
         values,
-    })
+    };
+    items.with_item(alloc, &item)
 }
 
 // The items, and behind them the numbers of the triples where there are any.
@@ -88,11 +89,12 @@ fn with_coefficients(
     }
     let name = coefficients_name(alloc, sc)?;
     let values = numbers_of(alloc, triples)?;
-    items.with_item(&Item {
+    let item = Item {
         name,
         op: Op::Append,
         values,
-    })
+    };
+    items.with_item(alloc, &item)
 }
 
 /// The kernel ID and the numbers of the triples, each where it is given.

@@ -1,7 +1,7 @@
 use Rattle.std.proofs.Common.{false, length, ap, arith, subst}
 use Rattle.sk_decimal.specs.Reading.{number_of}
 use Rattle.sk_grammar.specs.declared.stop.Stop.{Stop}
-use Rattle.sk_grammar.specs.Reading.{text_from, text_value}
+use Rattle.sk_grammar.specs.ValueReading.{text_from, text_value}
 use Rattle.sk_grammar.proofs.Quotations.{text_stopped, text_long, text_short}
 use Rattle.sk_grammar.proofs.tokens.quoted_value.Goals as goal
 

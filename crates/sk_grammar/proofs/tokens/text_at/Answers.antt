@@ -3,7 +3,7 @@ use Rattle.std.specs.List.{prefix_len}
 use Rattle.std.proofs.lemmas.List.Sums.{prefix_len-le-length}
 use Rattle.sk_grammar.specs.declared.fault.Reason.{Reason}
 use Rattle.sk_grammar.specs.Quotes.{is_plain}
-use Rattle.sk_grammar.specs.Reading.{text_from}
+use Rattle.sk_grammar.specs.ValueReading.{text_from}
 use Rattle.sk_grammar.proofs.PlainTexts.{IsPlainText, plain_text, plain_ended}
 use Rattle.sk_grammar.proofs.tokens.text_at.Goals as goal
 
