@@ -53,9 +53,9 @@ rows (a ∷ b ∷ c ∷ []) some valid =
     let g = first_feeds b (c ∷ []) f.1 in
     let h = first_feeds c [] g.1 in
     ap (λ (t : List ℕ). t ++ 10 ∷ []) (
-      passes 1 (value_text a) (10 ∷ (value_text b ++ 10 ∷ value_text c)) f.0
-      ∙ ap (λ (t : List ℕ). value_text a ++ 32 ∷ t) (passes 2 (value_text b) (10 ∷ value_text c) g.0)
-      ∙ ap (λ (t : List ℕ). value_text a ++ 32 ∷ (value_text b ++ 32 ∷ t)) (alone 3 (value_text c) h.0))
+    passes 1 (value_text a) (10 ∷ (value_text b ++ 10 ∷ value_text c)) f.0
+    ∙ ap (λ (t : List ℕ). value_text a ++ 32 ∷ t) (passes 2 (value_text b) (10 ∷ value_text c) g.0)
+    ∙ ap (λ (t : List ℕ). value_text a ++ 32 ∷ (value_text b ++ 32 ∷ t)) (alone 3 (value_text c) h.0))
     ∙ three_joined (value_text a) (value_text b) (value_text c) (10 ∷ [])
 rows (a ∷ b ∷ c ∷ d ∷ values) some valid =
     let f = first_feeds a (b ∷ c ∷ d ∷ values) valid in
@@ -64,9 +64,9 @@ rows (a ∷ b ∷ c ∷ d ∷ values) some valid =
     let rest = join_with_byte 10 (map value_text (d ∷ values)) in
     let row = (value_text a ++ codes " " ++ value_text b ++ codes " " ++ value_text c) ++ 10 ∷ [] in
     ap (λ (t : List ℕ). t ++ 10 ∷ []) (
-      passes 1 (value_text a) (10 ∷ (value_text b ++ 10 ∷ (value_text c ++ 10 ∷ rest))) f.0
-      ∙ ap (λ (t : List ℕ). value_text a ++ 32 ∷ t) (passes 2 (value_text b) (10 ∷ (value_text c ++ 10 ∷ rest)) g.0)
-      ∙ ap (λ (t : List ℕ). value_text a ++ 32 ∷ (value_text b ++ 32 ∷ t)) (passes 3 (value_text c) (10 ∷ rest) h.0))
+    passes 1 (value_text a) (10 ∷ (value_text b ++ 10 ∷ (value_text c ++ 10 ∷ rest))) f.0
+    ∙ ap (λ (t : List ℕ). value_text a ++ 32 ∷ t) (passes 2 (value_text b) (10 ∷ (value_text c ++ 10 ∷ rest)) g.0)
+    ∙ ap (λ (t : List ℕ). value_text a ++ 32 ∷ (value_text b ++ 32 ∷ t)) (passes 3 (value_text c) (10 ∷ rest) h.0))
     ∙ more_joined (value_text a) (value_text b) (value_text c) (in_threes 1 rest) (10 ∷ [])
     ∙ ap (λ (t : List ℕ). row ++ t) (rows (d ∷ values) (omega arith) h.1)
 

@@ -45,7 +45,13 @@ fn end_line(alloc: Global, items: &mut Items, place: Place) -> Result<Place, Sto
 {
     match place {
         Place::Named(_) => Err(Stop::Refused(Reason::NoAssign)),
-        Place::Closed(name, op, values) => match add_item(alloc, items, name.as_slice(), op, &values) {
+        Place::Closed(name, op, values) => match add_item(
+            alloc,
+            items,
+            name.as_slice(),
+            op,
+            &values,
+        ) {
             Err(_) => Err(Stop::OutOfMemory),
             Ok(()) => Ok(Place::Idle),
         },

@@ -147,11 +147,7 @@ impl Values {
         ensures { option_map (λ text. text.now) result ≡ only_text self.now }
     {
         let (line, behind) = split_line(self.text.as_slice())?;
-        if behind.is_empty() {
-            Some(line)
-        } else {
-            None
-        }
+        if behind.is_empty() { Some(line) } else { None }
     }
 
     /// The values, one by one.

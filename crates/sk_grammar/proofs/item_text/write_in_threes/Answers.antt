@@ -1,6 +1,8 @@
 use Rattle.std.proofs.Common.{◌≡◌, ◌+◌, ℕ, List, [], ◌∷◌, ◌++◌, drop, get_or, ap, sym, ◌∙◌, append_assoc, arith}
-use Rattle.std.proofs.lemmas.List.{drop_more, append_cancel_right}
+use Rattle.std.proofs.Math.ListN.{drop_of_length-le}
+use Rattle.std.proofs.lemmas.List.{drop_more}
 use Rattle.sk_grammar.specs.Writing.{in_threes}
+use Rattle.sk_grammar.proofs.Lists.{append-[], same_last}
 use Rattle.sk_grammar.proofs.item_text.write_in_threes.Goals as goal
 
 pub loop-byte-preserved : goal.loop-byte-preserved
@@ -21,4 +23,15 @@ loop-byte-preserved c =
     }
 
 pub returns : goal.returns
-returns c = ?
+returns c = λ front whole.
+    let held = c.in-Some.front.now in
+    let out = c.loop-byte.out.items in
+    let start = c.args.out.now.items in
+    let same = same_last held front c.in-Some.last.now 10 (sym c.in-Some.ensures.cases.0 ∙ whole) in
+    let none : drop c.loop-byte.byte-index held ≡ [] = drop_of_length-le held {i = c.loop-byte.byte-index} (omega arith) in
+    let written : out ≡ start ++ in_threes 1 front =
+    sym (append-[] out) ∙ ap (λ (t : List ℕ). out ++ in_threes c.loop-byte.column t) (sym none) ∙ c.loop-byte.invariant.threes ∙ ap (λ (t : List ℕ). start ++ in_threes 1 t) same.0 in
+    c.in_ok-push-2.ensures.items
+    ∙ ap (λ (b : ℕ). out ++ b ∷ []) same.1
+    ∙ ap (λ (t : List ℕ). t ++ 10 ∷ []) written
+    ∙ append_assoc start (in_threes 1 front) (10 ∷ [])
