@@ -110,23 +110,25 @@ fn each_call_of_the_output_fails(rt: HostRuntime) -> Result<(), Fail> {
 #[test]
 fn kernels_are_published(rt: HostRuntime) -> Result<(), Fail> {
     let alloc = rt.alloc();
+    let plain: &[&str] = &PLAIN;
+    let split: &[&str] = &SPLIT;
     let table: [(&[&str], &str, &[&str], u8, &str, &str); 9] = [
-        (&PLAIN, SLOW, &["--rate-decimals=9"], 0, SLOW_BLOCK, ""),
+        (plain, SLOW, &["--rate-decimals=9"], 0, SLOW_BLOCK, ""),
         (
-            &PLAIN,
+            plain,
             SLOW,
             &["--rate-decimals=9", "--hold=128000"],
             0,
             HELD_BLOCK,
             "",
         ),
-        (&PLAIN, FAR_OFF, &[], 6, "", "refused;6;NoRate;2\n"),
-        (&PLAIN, FAR_OFF, &["--reject=1"], 0, DROPPED_BLOCK, ""),
-        (&PLAIN, HEADER, &["--id=2024-02-01"], 0, NAMED_BLOCK, ""),
-        (&SPLIT, NEXT, &[], 0, NEXT_BLOCK, ""),
-        (&SPLIT, EARLIER, &[], 6, "", "refused;6;TimeFalls;2\n"),
+        (plain, FAR_OFF, &[], 6, "", "refused;6;NoRate;2\n"),
+        (plain, FAR_OFF, &["--reject=1"], 0, DROPPED_BLOCK, ""),
+        (plain, HEADER, &["--id=2024-02-01"], 0, NAMED_BLOCK, ""),
+        (split, NEXT, &[], 0, NEXT_BLOCK, ""),
+        (split, EARLIER, &[], 6, "", "refused;6;TimeFalls;2\n"),
         (
-            &SPLIT,
+            split,
             NEXT,
             &["--hold=1000000"],
             6,
@@ -134,7 +136,7 @@ fn kernels_are_published(rt: HostRuntime) -> Result<(), Fail> {
             "refused;6;BadHold\n",
         ),
         (
-            &PLAIN,
+            plain,
             SLOW,
             &["--id=a(b"],
             2,
