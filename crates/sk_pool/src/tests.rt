@@ -11,7 +11,7 @@ fn has_few_items(doc: &Doc) -> bool
     ensures { IsTrue result → length (items_of doc.now) < 2 ^ 32 }
 {
     match doc.blocks.as_slice() {
-        [block] => block.items.as_text().len() < 1_000_000,
+        [block] => block.items.as_text().len() < 4_000_000,
         _ => false,
     }
 }
