@@ -25,7 +25,7 @@ fn has_few_items(doc: &Doc) -> bool
     ensures { IsTrue result → length (items_of doc.now) < 2 ^ 32 }
 {
     match doc.blocks.as_slice() {
-        [block] => block.items.as_slice().len() < 1000,
+        [block] => block.items.as_text().len() < 100_000,
         _ => false,
     }
 }
