@@ -107,54 +107,64 @@ fn each_call_of_the_output_fails(rt: HostRuntime) -> Result<(), Fail> {
     Ok(())
 }
 
+/// A kernel with one partition, or with two.
+fn parts(is_split: bool) -> [&'static str; 5] {
+    if is_split { SPLIT } else { PLAIN }
+}
+
+/// The words that publish the observations with up to two options.
+fn words_with(alloc: Global, first: &str, second: &str) -> Result<Vec<String>, AllocError> {
+    let mut words = texts(alloc, &["publish", "--kernel=k", "--obs=o", "--sc=99"])?;
+    if !first.is_empty() {
+        words.push(String::from_str(alloc, first)?)?;
+    }
+    if !second.is_empty() {
+        words.push(String::from_str(alloc, second)?)?;
+    }
+    Ok(words)
+}
+
+const NINE: &str = "--rate-decimals=9";
+
 #[test]
 fn kernels_are_published(rt: HostRuntime) -> Result<(), Fail> {
     let alloc = rt.alloc();
-    let plain: &[&str] = &PLAIN;
-    let split: &[&str] = &SPLIT;
-    let table: [(&[&str], &str, &[&str], u8, &str, &str); 9] = [
-        (plain, SLOW, &["--rate-decimals=9"], 0, SLOW_BLOCK, ""),
+    let table = [
+        (false, SLOW, NINE, "", 0, SLOW_BLOCK, ""),
+        (false, SLOW, NINE, "--hold=128000", 0, HELD_BLOCK, ""),
+        (false, FAR_OFF, "", "", 6, "", "refused;6;NoRate;2\n"),
+        (false, FAR_OFF, "--reject=1", "", 0, DROPPED_BLOCK, ""),
+        (false, HEADER, "--id=2024-02-01", "", 0, NAMED_BLOCK, ""),
+        (true, NEXT, "", "", 0, NEXT_BLOCK, ""),
+        (true, EARLIER, "", "", 6, "", "refused;6;TimeFalls;2\n"),
         (
-            plain,
-            SLOW,
-            &["--rate-decimals=9", "--hold=128000"],
-            0,
-            HELD_BLOCK,
-            "",
-        ),
-        (plain, FAR_OFF, &[], 6, "", "refused;6;NoRate;2\n"),
-        (plain, FAR_OFF, &["--reject=1"], 0, DROPPED_BLOCK, ""),
-        (plain, HEADER, &["--id=2024-02-01"], 0, NAMED_BLOCK, ""),
-        (split, NEXT, &[], 0, NEXT_BLOCK, ""),
-        (split, EARLIER, &[], 6, "", "refused;6;TimeFalls;2\n"),
-        (
-            split,
+            true,
             NEXT,
-            &["--hold=1000000"],
+            "--hold=1000000",
+            "",
             6,
             "",
             "refused;6;BadHold\n",
         ),
         (
-            plain,
+            false,
             SLOW,
-            &["--id=a(b"],
+            "--id=a(b",
+            "",
             2,
             "",
             "refused;2;OutOfRange;id\n",
         ),
     ];
-    for (parts, observations, options, code, block, line) in table {
-        let mut words = texts(alloc, &["publish", "--kernel=k", "--obs=o", "--sc=99"])?;
-        for option in options {
-            words.push(String::from_str(alloc, option)?)?;
-        }
-        let held = files(alloc, parts, observations)?;
+    for (is_split, observations, first, second, code, block, line) in table {
+        let parts = parts(is_split);
+        let words = words_with(alloc, first, second)?;
+        let held = files(alloc, &parts, observations)?;
         let mut depot = MemoryDepot::new(held, vec![in alloc; 1]?, Vec::new(alloc));
         let mut out = wide_output(alloc, Vec::new(alloc))?;
         let mut notes = wide_output(alloc, Vec::new(alloc))?;
         let status = run(alloc, &words, &mut depot, &mut out, &mut notes);
-        let text = published(alloc, parts, block)?;
+        let text = published(alloc, &parts, block)?;
         assert_eq!(rt; notes.written(), line.as_bytes());
         assert_eq!(rt; out.written(), text.as_slice());
         assert_eq!(rt; status.code(), code);
