@@ -107,7 +107,7 @@ def rates(anchor, step, sights, tolerance):
 
 
 def published(records, tolerance, step):
-    """The block that a publication adds where the old last triple is left behind an observation and one new triple is within the
+    """The block that a publication adds where the old last triple is left after an observation and one new triple is within the
     tolerance of all that follow, as here."""
     sights = [(name, encoded, sent - delay * 1000, number) for number, (name, encoded, sent, delay) in enumerate(records, 2)]
     within = [abs(time_of(encoded)[1] - observed) <= tolerance for _, encoded, observed, _ in sights]
@@ -138,6 +138,26 @@ def line(encoded, utc_of):
     print(clock_text(encoded), encoded, decimals(time), utc_of(time), sep=";")
 
 
+def dated(year, day, hour, minute, second):
+    """A calendar time of TDT: days of 86400 s from 2000-01-01 12:00 on."""
+    days = (datetime.date(year, 1, 1) - datetime.date(2000, 1, 1)).days + day - 1
+    return days * 86400 - 43200 + hour * 3600 + minute * 60 + Fraction(second)
+
+
+LANDER_COUNT = 50000
+LANDER = [  # 2006-01-19 and day 29 of 2006
+    (0, dated(2006, 19, 18, 9, "5.184"), Fraction("1")),
+    (43200000000, dated(2006, 29, 18, 9, "5.184"), Fraction("1.0000000002")),
+]
+
+
+def lander_line(count, part):
+    encoded = count * LANDER_COUNT + part
+    ticks, time, rate = [triple for triple in LANDER if triple[0] <= encoded][-1]
+    units = picoseconds(time + rate * Fraction(encoded - ticks, LANDER_COUNT))
+    print("1/%010d:%05d" % (count, part), encoded, decimals(units), "-", sep=";")
+
+
 print("pass-021.residuals")
 table(PASS_021)
 print("pass-022.residuals")
@@ -146,5 +166,7 @@ print("reading.converted")
 line(tick(1742400, 32768), lambda time: "-")
 print("shutter.converted")
 line(tick(0x1CFDE0, 0x4000), utc_text)
-print("pass-022.published, behind orbiter.canonical")
+print("lander.converted")
+lander_line(950400, 25000)
+print("pass-022.published, after orbiter.canonical")
 published(PASS_022, 30000 * 1000, Fraction(1, 10**12))

@@ -1,4 +1,3 @@
-pub mod Row
 pub mod Clock
 pub mod ClockText
 pub mod Kernel

@@ -1,3 +1,7 @@
+ghost use Rattle.std.specs.Prelude.{◌≡◌};
+ghost use Rattle.sk_excerpt.specs.declared.fault.ExcerptFault.TheVariants.{NoMemory as Memory};
+
+use sk_checks::NoMemory;
 use thiserror::Error;
 
 /// Why there is no excerpt.
@@ -11,4 +15,12 @@ pub enum ExcerptFault {
     BeforeFirst,
     #[error("out of memory")]
     NoMemory,
+}
+
+impl From<NoMemory> for ExcerptFault {
+    ghost from_gives = { λ _ fault. fault ≡ Memory };
+
+    fn from(_: NoMemory) -> ExcerptFault {
+        ExcerptFault::NoMemory
+    }
 }

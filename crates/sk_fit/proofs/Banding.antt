@@ -5,10 +5,10 @@ use Rattle.std.proofs.lemmas.Int.{ints, by_lt_z}
 use Rattle.std.proofs.Math.Nat.{mul_assoc}
 use Rattle.std.specs.Prelude.{ℤ, pos, ◌+ℤ◌, ◌*ℤ◌, ◌≤ℤ◌, ◌<ℤ◌}
 use Rattle.sk_decimal.proofs.Signed.{mul-le_right, add-mul}
-use Rattle.sk_triples.specs.Terms.{Terms, grid}
-use Rattle.sk_triples.specs.Rates.{BandView, IsBand, on_grid}
-use Rattle.sk_triples.specs.Chain.{IsAllowedStep}
-use Rattle.sk_triples.proofs.RoundedUp.{power_positive}
+use Rattle.sk_publishing.specs.Terms.{Terms, grid}
+use Rattle.sk_publishing.specs.Rates.{BandView, IsBand, on_grid}
+use Rattle.sk_publishing.specs.Chain.{IsAllowedStep}
+use Rattle.sk_line.proofs.Products.{power_positive}
 use Rattle.sk_triples.proofs.Decimals.{power_left}
 use Rattle.sk_fit.specs.Given.{IsUsableBand}
 

@@ -3,14 +3,14 @@ use Rattle.std.proofs.Common.{◌≡◌, ◌≢◌, ◌⊎◌, ℕ, ◌+◌, ◌
 use Rattle.std.proofs.lemmas.List.{take_more, take_all}
 use Rattle.std.specs.Prelude.{ℤ, pos, ◌*ℤ◌, ◌^◌, unwrap_or}
 use Rattle.std.specs.List.{AllByRecursion}
-use Rattle.sk_clock.specs.Row.{RowView}
+use Rattle.sk_publishing.specs.Row.{RowView}
 use Rattle.sk_clock.specs.Clock.{ClockView, ticks_per, total, partition_at}
 use Rattle.sk_triples.specs.declared.triples.Fall.{Fall}
-use Rattle.sk_triples.specs.Terms.{TripleView}
-use Rattle.sk_triples.specs.Line.{FallsOver, IsFirstFall}
+use Rattle.sk_line.specs.Triple.{TripleView}
+use Rattle.sk_line.specs.Line.{FallsOver, IsFirstFall}
 use Rattle.sk_triples.specs.Kernel.{TriplesView, IsTriple, HasFall}
-use Rattle.sk_triples.specs.Input.{IsBadHold}
-use Rattle.sk_triples.proofs.Lists.{all_back}
+use Rattle.sk_publishing.specs.Input.{IsBadHold}
+use Rattle.sk_line.proofs.Lists.{all_back}
 use Rattle.sk_fit.specs.declared.settings.Settings.{Settings}
 use Rattle.sk_fit.specs.Causes.{input, IsOldFall}
 

@@ -1,10 +1,17 @@
 -- An observation is dropped where one more may be.
-use Rattle.std.proofs.Common.{◌≡◌, ℕ, ◌<◌, ◌≤◌, true, List, [], ◌∷◌, ◌++◌, length, ap, ◌∙◌, arith}
+use Rattle.std.proofs.Common.{◌≡◌, ℕ, ◌<◌, ◌≤◌, true, List, [], ◌∷◌, ◌++◌, length, ap, ◌∙◌, arith, Bool, false, IsTrue, inl, inr}
 use Rattle.std.proofs.lemmas.List.{length-map}
-use Rattle.sk_triples.specs.Terms.{Sight, Terms}
-use Rattle.sk_triples.specs.Kept.{is_new, HasNoRate}
+use Rattle.std.proofs.lemmas.Bool.Decides.{leb_tells}
+use Rattle.std.specs.Prelude.{◌↔◌}
+use Rattle.sk_publishing.specs.Terms.{Sight, Terms}
+use Rattle.sk_publishing.specs.Kept.{is_new, HasNoRate}
 use Rattle.sk_fit.specs.State.{FittingView, dropped_at, IsFitting, IsAt, Rises, Moves}
+use Rattle.sk_fit.proofs.Answered.{untrue}
 use Rattle.sk_fit.proofs.Moves.{waits}
+
+-- where not so many are dropped as may be, one more may be
+pub one_more : {b : Bool} {most number : ℕ} → (IsTrue b ↔ (most ≤ number)) → b ≡ false → number < most
+one_more {b} {most} {number} is e = elim (leb_tells most number) [ inl w ↦ absurd (untrue b e (is.1 w.1)) | inr w ↦ w.1 ]
 
 module _ (t : Terms) (all : List Sight) (n : ℕ) (f : FittingView) where
   -- as many are dropped as places are kept of them

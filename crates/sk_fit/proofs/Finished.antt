@@ -2,10 +2,11 @@
 use Rattle.std.proofs.Common.{◌≡◌, ℕ, suc, ◌-◌, List, [], ◌∷◌, ◌++◌, length, refl, sym, ap, subst, ◌∙◌, arith}
 use Rattle.std.proofs.lemmas.List.{map-append, length-map}
 use Rattle.std.specs.Prelude.{count_by, not, flat_map, None}
-use Rattle.sk_triples.specs.Terms.{Sight, Terms, TripleView}
-use Rattle.sk_triples.specs.Chain.{SegmentView, new_triples, IsChain}
-use Rattle.sk_triples.specs.Kept.{Sorts, IsPublication, is_new}
-use Rattle.sk_triples.specs.Input.{Input, Begins, AreTooMany}
+use Rattle.sk_publishing.specs.Terms.{Sight, Terms}
+use Rattle.sk_line.specs.Triple.{TripleView}
+use Rattle.sk_publishing.specs.Chain.{SegmentView, new_triples, IsChain}
+use Rattle.sk_publishing.specs.Kept.{Sorts, IsPublication, is_new}
+use Rattle.sk_publishing.specs.Input.{Input, Begins, AreTooMany}
 use Rattle.sk_fit.specs.declared.chain.Chain.{Chain}
 use Rattle.sk_fit.specs.Given.{segment_view, segments_of}
 use Rattle.sk_fit.specs.State.{FittingView, IsFitting, front_of, open_of}

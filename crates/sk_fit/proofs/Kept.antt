@@ -1,9 +1,9 @@
 -- What is kept of a list of observations has what its new ones have, and their order.
 use Rattle.std.proofs.Common.{◌≡◌, List, [], ◌∷◌, ◌++◌, true, sym, subst, inl, inr}
 use Rattle.std.specs.List.{AllByRecursion}
-use Rattle.sk_triples.specs.Terms.{Sight, Terms}
-use Rattle.sk_triples.specs.Kept.{is_new, SortsNext, SortsFrom, Sorts}
-use Rattle.sk_triples.proofs.Lists.{all_append, all_map}
+use Rattle.sk_publishing.specs.Terms.{Sight, Terms}
+use Rattle.sk_publishing.specs.Kept.{is_new, SortsNext, SortsFrom, Sorts}
+use Rattle.sk_line.proofs.Lists.{all_append, all_map}
 
 module _ (t : Terms) (P : Sight → Type 0) where
   kept_next : (kept dropped : List Sight) (o : Sight) (k d : List Sight) → SortsNext t kept dropped o k d

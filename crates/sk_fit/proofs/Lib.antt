@@ -6,7 +6,6 @@ pub mod Moves
 pub mod Ranges
 pub mod Widen
 pub mod Leaving
-pub mod Apart
 pub mod Dropping
 pub mod Banding
 pub mod Finished

@@ -1,18 +1,17 @@
 -- One observation after another: what is built goes on, or an observation stops it.
-use Rattle.std.proofs.Common.{◌≡◌, ℕ, ◌+◌, ◌<◌, ◌≤◌, ◌^◌, List, sym, subst, take, drop, true}
+use Rattle.std.proofs.Common.{◌≡◌, ℕ, ◌+◌, ◌<◌, ◌^◌, List, sym, subst, take, drop, true}
 use Rattle.std.specs.Prelude.{Some, slice_get}
-use Rattle.std.specs.List.{AllByRecursion}
-use Rattle.sk_clock.specs.Row.{RowView, AreRows}
-use Rattle.sk_clock.specs.Clock.{ClockView, total}
-use Rattle.sk_triples.specs.Terms.{Sight, Terms, TripleView, sights}
-use Rattle.sk_triples.specs.Kept.{Sorts, is_new}
-use Rattle.sk_fit.specs.declared.settings.Settings.{Settings}
+use Rattle.sk_publishing.specs.Row.{RowView}
+use Rattle.sk_clock.specs.Clock.{total}
+use Rattle.sk_publishing.specs.Terms.{Sight, Terms, sights}
+use Rattle.sk_publishing.specs.Kept.{Sorts, is_new}
 use Rattle.sk_fit.specs.declared.fault.FitFault.{FitFault}
 use Rattle.sk_fit.specs.declared.fault.FitFault.TheVariants.{BadHold, OldFalls, BandEmpty, NoRate, TimeFalls, TooMany, NoMemory}
-use Rattle.sk_fit.specs.Given.{sight_at, terms_of}
-use Rattle.sk_fit.specs.State.{FittingView, Moves, StopsBy, IsSmallClock, IsNextOne}
+use Rattle.sk_fit.specs.Given.{sight_at}
+use Rattle.sk_fit.specs.State.{FittingView, Moves, StopsBy}
+use Rattle.sk_fit.specs.Context.{FitView, IsFit, IsNext, terms}
 use Rattle.sk_fit.specs.Fitted.{IsFitted, StopsAt}
-use Rattle.sk_fit.proofs.Observed.{here_row, take_row, sorts_more, at_row, rises_row, in_range, new_at}
+use Rattle.sk_fit.proofs.Observed.{here_row, take_row, sorts_more, at_row, rises_row, in_range}
 
 pub goes_on : (t : Terms) (rows : List RowView) (n : ℕ) (row : RowView) (f f' : FittingView) → slice_get rows n ≡ Some row
     → Moves t (sights rows) n (sight_at n row) f f' → IsFitted t rows n f → IsFitted t rows (n + 1) f'
@@ -65,17 +64,16 @@ stops t rows n row f (OldFalls fall) here new h s = s
 stops t rows n row f BandEmpty here new h s = s
 stops t rows n row f TooMany here new h s = s
 
-pub next_one : (settings : Settings) (clock : ClockView) (old : TripleView) (rows : List RowView) (first_new n : ℕ) (row : RowView)
-    → IsSmallClock clock → AreRows (total clock) rows → slice_get rows n ≡ Some row
-    → AllByRecursion (λ x. first_new ≤ x.place → is_new (terms_of settings clock old) x ≡ true) (sights rows) → first_new ≤ n → n + 1 < 2 ^ 64
-    → IsNextOne (terms_of settings clock old) clock (sights rows) n (sight_at n row)
-next_one settings clock old rows first_new n row small given here news later short =
-    let range = in_range (total clock) rows n row given here in
+-- the next observation keeps to what a fit asks of it
+pub next_one : (fit : FitView) (n : ℕ) (row : RowView) → IsFit fit → slice_get fit.rows n ≡ Some row → n + 1 < 2 ^ 64
+    → is_new (terms fit) (sight_at n row) ≡ true → IsNext fit n row
+next_one fit n row given here short new =
+    let range = in_range (total fit.clock) fit.rows n row given.observed here in
     record {
-      clocked = small;
-      at = at_row rows n row here;
-      rises = rises_row (total clock) rows n row given here;
-      new = new_at (terms_of settings clock old) rows first_new n row later here news;
+      given = given;
+      at = at_row fit.rows n row here;
+      rises = rises_row (total fit.clock) fit.rows n row given.observed here;
+      new = new;
       not_past = range.0;
       from = range.1;
       to = range.2;

@@ -4,21 +4,41 @@ use Rattle.std.specs.Prelude.{ℤ, ◌≤ℤ◌, Some}
 use Rattle.std.specs.List.{AllByRecursion}
 use Rattle.sk_decimal.specs.declared.fixed.Fixed.{Fixed}
 use Rattle.sk_fit.specs.declared.settings.Line.{Line}
-use Rattle.sk_fit.specs.declared.chain.Segment.{Segment}
+use Rattle.sk_fit.specs.declared.open_segment.Running.{Running}
+use Rattle.sk_fit.specs.declared.ending.Beginning.{Beginning}
 use Rattle.sk_fit.specs.declared.chain.End.{End}
-use Rattle.sk_triples.specs.Terms.{Sight, Anchor, Terms, in_seconds, partition_at}
-use Rattle.sk_triples.specs.Line.{Meets}
-use Rattle.sk_triples.specs.Rates.{IsFirstGreatest, IsFirstLeast, IsLeastRate, IsGreatestRate}
-use Rattle.sk_triples.specs.Chain.{SegmentView, IsAllowedStep, left_at, IsInPartition, anchor_due, IsNotLater, IsChain}
-use Rattle.sk_triples.specs.Kept.{is_new, HasNoRate, SortsNext}
-use Rattle.sk_triples.specs.Built.{Built, longer, beginning, middle_rate}
-use Rattle.sk_triples.proofs.Lists.{all_append, all_map, all_both, all_back}
-use Rattle.sk_triples.proofs.Steps.{ended_as}
-use Rattle.sk_triples.proofs.Fitting.{is_kept, is_dropped, first_goes_on, later_goes_on, begins}
+use Rattle.sk_publishing.specs.Terms.{Sight, Terms, in_seconds, partition_at}
+use Rattle.sk_line.specs.Triple.{Anchor}
+use Rattle.sk_publishing.specs.Meets.{Meets}
+use Rattle.sk_publishing.specs.Rates.{IsLeastRate, IsGreatestRate}
+use Rattle.sk_publishing.specs.Chain.{SegmentView, IsAllowedStep, left_at, IsInPartition, anchor_due, IsNotLater, IsChain}
+use Rattle.sk_publishing.specs.Kept.{is_new, HasNoRate, SortsNext}
+use Rattle.sk_publishing.specs.Built.{Built, longer, beginning, middle_rate}
+use Rattle.sk_line.proofs.Lists.{all_append, all_map, all_both, all_back}
+use Rattle.sk_publishing.proofs.Steps.{ended_as}
+use Rattle.sk_publishing.proofs.Fitting.{is_kept, is_dropped, first_goes_on, later_goes_on, begins}
 use Rattle.sk_fit.specs.Given.{segment_view, end_view, anchor_of, IsRate}
 use Rattle.sk_fit.specs.State.{HoldsLine, FittingView, gone_on, bounded, begun_at, dropped_at, front_of, open_of, HasPlaces, IsOpen, IsFitting, IsAt, Rises, HoldsDue, old_number}
+use Rattle.sk_fit.specs.Pairs.{IsRunning}
+use Rattle.sk_fit.specs.Context.{IsBeginning}
+use Rattle.std.proofs.lemmas.List.{length-map}
 use Rattle.sk_fit.proofs.States.{open_on, open_begun, front_begun, open_dropped, front_dropped, places_on, places_begun, places_dropped}
 use Rattle.sk_fit.proofs.Placing.{last_more, placed_on, placed_begun, placed_dropped}
+
+-- where closed segments are views of some, there are some
+pub some_front : (all : List Sight) (f : FittingView) → 0 < length f.closed → 0 < length (front_of all f)
+some_front all f k = let e = length-map f.closed (segment_view all f.dropped) in omega arith
+
+-- The next segment begins with o at this anchor: it is the one due, in the partition of o and past the anchor before it.
+pub record IsLeft (t : Terms) (all : List Sight) (f : FittingView) (o : Sight) (anchor : Line) : Type 0 where
+  pub due : anchor_of anchor ≡ anchor_due t (open_of all f) o
+  pub not_later : ¬ IsInPartition t (open_of all f) o → IsNotLater t (open_of all f) o
+  pub here : partition_at t o.tick ≡ partition_at t anchor.ticks
+  pub past : f.open_one.anchor.ticks < anchor.ticks
+  pub before : partition_at t anchor.ticks ≡ partition_at t f.open_one.anchor.ticks → anchor.ticks < o.tick
+  pub reached : anchor.ticks ≤ o.tick
+  pub whole : (units : ℤ) × (anchor.time.units ≡ in_seconds t.gauge units)
+  pub line : HoldsLine t.gauge.per_count anchor
 
 -- what holds of all holds of one
 pub at_place : (all : List Sight) (n : ℕ) (o : Sight) (P : Sight → Type 0) → IsAt all n o → AllByRecursion P all → P o
@@ -33,7 +53,7 @@ module _ (t : Terms) (all : List Sight) (n : ℕ) (f : FittingView) (o : Sight) 
   pub after_anchor : f.open_one.anchor.ticks < o.tick
   after_anchor = (at_place all n o _ at h.ahead (let e = at.place in omega arith)).0
 
-  pub after_left : IsInPartition t (open_of all f) o → f.left < o.tick
+  pub after_left : IsInPartition t (open_of all f) o → f.leave_tick < o.tick
   after_left here = (at_place all n o _ at h.ahead (let e = at.place in omega arith)).1 here
 
   pub open_stays : (rate : Fixed 18) → IsInPartition t (open_of all f) o → IsRate rate.units → HoldsDue t (longer (open_of all f) o rate.units) o.tick
@@ -50,26 +70,24 @@ module _ (t : Terms) (all : List Sight) (n : ℕ) (f : FittingView) (o : Sight) 
         first_from_anchor = λ _. after;
         whole = h.whole;
         ahead = all_map _ _ (λ x w l. ((w.0 (omega arith)).0, (λ _. w.1 (omega arith)))) all
-            (all_both (λ x. n ≤ x.place → (f.open_one.anchor.ticks < x.tick) × (IsInPartition t (open_of all f) x → f.left < x.tick)) (λ x. n < x.place → o.tick < x.tick) all h.ahead rises);
+            (all_both (λ x. n ≤ x.place → (f.open_one.anchor.ticks < x.tick) × (IsInPartition t (open_of all f) x → f.leave_tick < x.tick)) (λ x. n < x.place → o.tick < x.tick) all h.ahead rises);
         line = h.line;
         rate = good;
         due_from = subst (λ (s : SegmentView). HoldsDue t s o.tick) (sym e) due;
       }
 
-  pub open_begins : (ended : End) (anchor : Line) (rate : Fixed 18) (least greatest : ℤ) → anchor.ticks ≤ o.tick
-      → (units : ℤ) × (anchor.time.units ≡ in_seconds t.gauge units) → HoldsLine t.gauge.per_count anchor
-      → IsRate rate.units → HoldsDue t (beginning (anchor_of anchor) o rate.units) o.tick
-      → IsOpen t all (n + 1) (begun_at f ended anchor rate n o.tick least greatest)
-  open_begins ended anchor rate least greatest before whole line good due =
-      let e = open_begun all n f dropped o ended anchor rate least greatest p at in
+  pub open_begins : (ended : End) (b : Beginning) → IsLeft t all f o b.anchor → IsRate b.rate.units
+      → HoldsDue t (beginning (anchor_of b.anchor) o b.rate.units) o.tick → IsOpen t all (n + 1) (begun_at f ended b n o.tick)
+  open_begins ended b left good due =
+      let e = open_begun all n f dropped o ended b p at in
       record {
         left = sym (ap (left_at t) e);
         covered_to = subst (λ (s : SegmentView). AllByRecursion (λ x. x.tick ≤ o.tick) s.covered) (sym e) (omega arith, tt);
-        from_anchor = before;
+        from_anchor = left.reached;
         first_from_anchor = λ none. absurd (let l = ap length none in let k = length-append f.closed (record f.open_one { ended = ended } ∷ []) in omega arith);
-        whole = λ _. whole;
-        ahead = all_map _ _ (λ x w l. (let q : o.tick < x.tick = w (omega arith) in ((omega arith), (λ _. q)))) all rises;
-        line = line;
+        whole = λ _. left.whole;
+        ahead = all_map _ _ (λ x w l. (let q : o.tick < x.tick = w (omega arith) in let r = left.reached in ((omega arith), (λ _. q)))) all rises;
+        line = left.line;
         rate = good;
         due_from = subst (λ (s : SegmentView). HoldsDue t s o.tick) (sym e) due;
       }
@@ -79,14 +97,14 @@ module _ (t : Terms) (all : List Sight) (n : ℕ) (f : FittingView) (o : Sight) 
       let e = open_dropped all n f dropped p in
       record {
         left = h.left ∙ ap (left_at t) (sym e);
-        covered_to = subst (λ (s : SegmentView). AllByRecursion (λ x. x.tick ≤ f.left) s.covered) (sym e) h.covered_to;
+        covered_to = subst (λ (s : SegmentView). AllByRecursion (λ x. x.tick ≤ f.leave_tick) s.covered) (sym e) h.covered_to;
         from_anchor = h.from_anchor;
         first_from_anchor = h.first_from_anchor;
         whole = h.whole;
         ahead = all_map _ _ (λ x w l. w (omega arith)) all h.ahead;
         line = h.line;
         rate = h.rate;
-        due_from = subst (λ (s : SegmentView). HoldsDue t s f.left) (sym e) h.due_from;
+        due_from = subst (λ (s : SegmentView). HoldsDue t s f.leave_tick) (sym e) h.due_from;
       }
 
 -- ---- one observation more
@@ -117,25 +135,25 @@ module _ (t : Terms) (all : List Sight) (n : ℕ) (f : FittingView) (o : Sight) 
         },
       )
 
-  pub moves_on_later : (low high : Sight) (least greatest : ℤ) (rate : Fixed 18) → 0 < length f.closed → IsInPartition t (open_of all f) o
-      → IsFirstGreatest (IsAllowedStep t) t.gauge (open_of all f).anchor ((open_of all f).covered ++ o ∷ []) low least
-      → IsFirstLeast (IsAllowedStep t) t.gauge (open_of all f).anchor ((open_of all f).covered ++ o ∷ []) high greatest → least ≤ℤ greatest
-      → rate.units ≡ middle_rate t least greatest → IsRate rate.units → HoldsDue t (longer (open_of all f) o rate.units) o.tick
-      → SortsNext t kept dropped o (kept ++ o ∷ []) dropped
-      × IsFitting t all (n + 1) (gone_on (bounded f low.place high.place least greatest) n o.tick rate) (kept ++ o ∷ []) dropped
-  moves_on_later low high least greatest rate some here p q filled middle good due =
+  pub moves_on_later : (r : Running) (rate : Fixed 18) → 0 < length f.closed → IsInPartition t (open_of all f) o → IsRunning t all f o r
+      → r.bounds.least ≤ℤ r.bounds.greatest → rate.units ≡ middle_rate t r.bounds.least r.bounds.greatest → IsRate rate.units
+      → HoldsDue t (longer (open_of all f) o rate.units) o.tick
+      → SortsNext t kept dropped o (kept ++ o ∷ []) dropped × IsFitting t all (n + 1) (gone_on (bounded f r) n o.tick rate) (kept ++ o ∷ []) dropped
+  moves_on_later r rate some here run filled middle good due =
+      let least : ℤ = r.bounds.least in
+      let greatest : ℤ = r.bounds.greatest in
       let e = open_on all n f dropped o rate h.places at in
-      let some' : 0 < length (front_of all f) = more f.closed some in
-      let built : Built t (kept ++ o ∷ []) (front_of all f) (longer (open_of all f) o rate.units) low high least greatest =
-      subst (λ (r : ℤ). Built t (kept ++ o ∷ []) (front_of all f) (longer (open_of all f) o r) low high least greatest) (sym middle)
-      (later_goes_on t kept (front_of all f) (open_of all f) o h.low h.high low high f.least f.greatest least greatest some' here p q filled h.built) in (
+      let some' : 0 < length (front_of all f) = some_front all f some in
+      let built : Built t (kept ++ o ∷ []) (front_of all f) (longer (open_of all f) o rate.units) run.first run.second least greatest =
+      subst (λ (x : ℤ). Built t (kept ++ o ∷ []) (front_of all f) (longer (open_of all f) o x) run.first run.second least greatest) (sym middle)
+      (later_goes_on t kept (front_of all f) (open_of all f) o h.low h.high run.first run.second f.least f.greatest least greatest some' here run.is_low run.is_high filled h.built) in (
         is_kept t kept dropped o (front_of all f ++ longer (open_of all f) o rate.units ∷ []) new built.chain,
         record {
-          low = low;
-          high = high;
-          low_place = refl;
-          high_place = refl;
-          built = subst (λ (s : SegmentView). Built t (kept ++ o ∷ []) (front_of all f) s low high least greatest) (sym e) built;
+          low = run.first;
+          high = run.second;
+          low_place = run.low_place;
+          high_place = run.high_place;
+          built = subst (λ (s : SegmentView). Built t (kept ++ o ∷ []) (front_of all f) s run.first run.second least greatest) (sym e) built;
           room = h.room;
           places = again (places_on all n f dropped o.tick rate h.places);
           placed = placed_on (old_number t all) all n f dropped h.places h.placed o rate at;
@@ -143,14 +161,10 @@ module _ (t : Terms) (all : List Sight) (n : ℕ) (f : FittingView) (o : Sight) 
         },
       )
     where
-      more : (xs : List Segment) → 0 < length xs → 0 < length (map (segment_view all f.dropped) xs)
-      more [] k = absurd (omega arith)
-      more (x ∷ xs) k = omega arith
-
-      again : HasPlaces all (n + 1) (gone_on f n o.tick rate) dropped → HasPlaces all (n + 1) (gone_on (bounded f low.place high.place least greatest) n o.tick rate) dropped
+      again : HasPlaces all (n + 1) (gone_on f n o.tick rate) dropped → HasPlaces all (n + 1) (gone_on (bounded f r) n o.tick rate) dropped
       again w = record { places = w.places; dropped_before = w.dropped_before; closed_before = w.closed_before; ordered = w.ordered; open_before = w.open_before; gap = w.gap }
 
-      again' : IsOpen t all (n + 1) (gone_on f n o.tick rate) → IsOpen t all (n + 1) (gone_on (bounded f low.place high.place least greatest) n o.tick rate)
+      again' : IsOpen t all (n + 1) (gone_on f n o.tick rate) → IsOpen t all (n + 1) (gone_on (bounded f r) n o.tick rate)
       again' w = record {
         left = w.left;
         covered_to = w.covered_to;
@@ -163,29 +177,29 @@ module _ (t : Terms) (all : List Sight) (n : ℕ) (f : FittingView) (o : Sight) 
         due_from = w.due_from;
       }
 
-  pub moves_off : (ended : End) (anchor : Line) (rate : Fixed 18) (least greatest : ℤ)
+  pub moves_off : (ended : End) (b : Beginning) → IsBeginning t o b → IsLeft t all f o b.anchor
       → IsChain t kept (Some o) (front_of all f ++ ended_as t (open_of all f) (end_view ended) ∷ [])
-      → anchor_of anchor ≡ anchor_due t (open_of all f) o
-      → (¬ IsInPartition t (open_of all f) o → IsNotLater t (open_of all f) o)
-      → partition_at t o.tick ≡ partition_at t (anchor_due t (open_of all f) o).ticks
-      → (open_of all f).anchor.ticks < (anchor_due t (open_of all f) o).ticks
-      → (partition_at t (anchor_due t (open_of all f) o).ticks ≡ partition_at t (open_of all f).anchor.ticks → (anchor_due t (open_of all f) o).ticks < o.tick)
-      → IsLeastRate (IsAllowedStep t) t.gauge (anchor_due t (open_of all f) o) o least → IsGreatestRate (IsAllowedStep t) t.gauge (anchor_due t (open_of all f) o) o greatest
-      → least ≤ℤ greatest → rate.units ≡ middle_rate t least greatest → IsRate rate.units
-      → anchor.ticks ≤ o.tick → (units : ℤ) × (anchor.time.units ≡ in_seconds t.gauge units) → HoldsLine t.gauge.per_count anchor
-      → HoldsDue t (beginning (anchor_of anchor) o rate.units) o.tick
-      → SortsNext t kept dropped o (kept ++ o ∷ []) dropped × IsFitting t all (n + 1) (begun_at f ended anchor rate n o.tick least greatest) (kept ++ o ∷ []) dropped
-  moves_off ended anchor rate least greatest so_far due later here rises' past p q filled middle good before whole line holds =
-      let front = front_begun t all n f o ended anchor rate least greatest in
-      let open' = open_begun all n f dropped o ended anchor rate least greatest h.places at in
-      let f' : FittingView = begun_at f ended anchor rate n o.tick least greatest in
-      let built : Built t (kept ++ o ∷ []) (front_of all f ++ ended_as t (open_of all f) (end_view ended) ∷ []) (beginning (anchor_due t (open_of all f) o) o (middle_rate t least greatest)) o o least greatest =
-      begins t kept (front_of all f) (ended_as t (open_of all f) (end_view ended)) o least greatest later here rises' past p q filled so_far in
-      let same : open_of all f' ≡ beginning (anchor_due t (open_of all f) o) o (middle_rate t least greatest) =
-      open' ∙ ap (λ (r : ℤ). beginning (anchor_of anchor) o r) middle ∙ ap (λ (a : Anchor). beginning a o (middle_rate t least greatest)) due in
+      → HoldsDue t (beginning (anchor_of b.anchor) o b.rate.units) o.tick
+      → SortsNext t kept dropped o (kept ++ o ∷ []) dropped × IsFitting t all (n + 1) (begun_at f ended b n o.tick) (kept ++ o ∷ []) dropped
+  moves_off ended b begun left so_far holds =
+      let least : ℤ = b.bounds.least in
+      let greatest : ℤ = b.bounds.greatest in
+      let due : Anchor = anchor_due t (open_of all f) o in
+      let f' : FittingView = begun_at f ended b n o.tick in
+      let built : Built t (kept ++ o ∷ []) (front_of all f ++ ended_as t (open_of all f) (end_view ended) ∷ []) (beginning due o (middle_rate t least greatest)) o o least greatest =
+      begins t kept (front_of all f) (ended_as t (open_of all f) (end_view ended)) o least greatest left.not_later
+      (subst (λ (a : Anchor). partition_at t o.tick ≡ partition_at t a.ticks) left.due left.here)
+      (subst (λ (a : Anchor). (open_of all f).anchor.ticks < a.ticks) left.due left.past)
+      (subst (λ (a : Anchor). partition_at t a.ticks ≡ partition_at t (open_of all f).anchor.ticks → a.ticks < o.tick) left.due left.before)
+      (subst (λ (a : Anchor). IsLeastRate (IsAllowedStep t) t.gauge a o least) left.due begun.is_least)
+      (subst (λ (a : Anchor). IsGreatestRate (IsAllowedStep t) t.gauge a o greatest) left.due begun.is_greatest)
+      begun.filled so_far in
+      let same : open_of all f' ≡ beginning due o (middle_rate t least greatest) =
+      open_begun all n f dropped o ended b h.places at ∙ ap (λ (r : ℤ). beginning (anchor_of b.anchor) o r) begun.middle
+      ∙ ap (λ (a : Anchor). beginning a o (middle_rate t least greatest)) left.due in
       let built' : Built t (kept ++ o ∷ []) (front_of all f') (open_of all f') o o least greatest =
       subst (λ (s : SegmentView). Built t (kept ++ o ∷ []) (front_of all f') s o o least greatest) (sym same)
-      (subst (λ (z : List SegmentView). Built t (kept ++ o ∷ []) z (beginning (anchor_due t (open_of all f) o) o (middle_rate t least greatest)) o o least greatest) (sym front) built) in (
+      (subst (λ (z : List SegmentView). Built t (kept ++ o ∷ []) z (beginning due o (middle_rate t least greatest)) o o least greatest) (sym (front_begun t all n f o ended b)) built) in (
         is_kept t kept dropped o (front_of all f' ++ open_of all f' ∷ []) new built'.chain,
         record {
           low = o;
@@ -194,9 +208,9 @@ module _ (t : Terms) (all : List Sight) (n : ℕ) (f : FittingView) (o : Sight) 
           high_place = sym at.place;
           built = built';
           room = h.room;
-          places = places_begun all n f dropped o.tick ended anchor rate least greatest h.places;
-          placed = placed_begun (old_number t all) all n f dropped h.places h.placed o ended anchor rate least greatest at;
-          is_open = open_begins t all n f o dropped at rises h.is_open h.places ended anchor rate least greatest before whole line good holds;
+          places = places_begun all n f dropped o.tick ended b h.places;
+          placed = placed_begun (old_number t all) all n f dropped h.places h.placed o ended b at;
+          is_open = open_begins t all n f o dropped at rises h.is_open h.places ended b left begun.good holds;
         },
       )
 

@@ -7,17 +7,19 @@ use Rattle.std.proofs.lemmas.List.Elements.{All-from_recursion}
 use Rattle.std.specs.Prelude.{ℤ, pos, neg_ℤ, ◌+ℤ◌, ◌*ℤ◌, ◌≤ℤ◌, ◌<ℤ◌, Option, None, flat_map}
 use Rattle.std.specs.List.{Any, AllByRecursion}
 use Rattle.sk_decimal.proofs.Signed.{mul-le_right, add-mul}
-use Rattle.sk_clock.specs.Row.{RowView, AreRows}
+use Rattle.sk_publishing.specs.Row.{RowView, AreRows}
 use Rattle.sk_clock.specs.Clock.{ClockView, total}
-use Rattle.sk_triples.specs.Terms.{Sight, Anchor, TripleView, Terms, in_seconds, partition_at, sights}
-use Rattle.sk_triples.specs.Line.{Meets, line_over, scaled}
-use Rattle.sk_triples.specs.Rates.{on_grid}
-use Rattle.sk_triples.specs.Chain.{SegmentView, first_of, covered_by, EachFollowed, EachJoined, ForNext, IsInPartition, IsGridRate, HasRate, anchor_due, IsNotLater, IsChain, new_triples}
-use Rattle.sk_triples.specs.Kept.{is_new}
+use Rattle.sk_publishing.specs.Terms.{Sight, Terms, in_seconds, partition_at, sights}
+use Rattle.sk_line.specs.Triple.{Anchor, TripleView}
+use Rattle.sk_publishing.specs.Meets.{Meets, scaled}
+use Rattle.sk_line.specs.Line.{line_over}
+use Rattle.sk_publishing.specs.Rates.{on_grid}
+use Rattle.sk_publishing.specs.Chain.{SegmentView, first_of, covered_by, EachFollowed, EachJoined, ForNext, IsInPartition, IsGridRate, HasRate, anchor_due, IsNotLater, IsChain, new_triples}
+use Rattle.sk_publishing.specs.Kept.{is_new}
 use Rattle.sk_triples.specs.Kernel.{TriplesView, AreOf, AreKept, AreTriples, IsTriple, Rise}
-use Rattle.sk_triples.proofs.Lists.{all_front, all_back, all_append}
-use Rattle.sk_triples.proofs.Chains.{starts}
-use Rattle.sk_triples.proofs.NewKernel.{triple_of, due_anew, no_fall_law}
+use Rattle.sk_line.proofs.Lists.{all_front, all_back, all_append}
+use Rattle.sk_publishing.proofs.Chains.{starts}
+use Rattle.sk_publishing.proofs.NewKernel.{triple_of, due_anew, no_fall_law}
 use Rattle.sk_fit.specs.declared.settings.Settings.{Settings}
 use Rattle.sk_fit.specs.declared.chain.Chain.{Chain}
 use Rattle.sk_fit.specs.declared.chain.Segment.{Segment}

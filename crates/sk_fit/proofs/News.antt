@@ -2,9 +2,10 @@
 use Rattle.std.proofs.Common.{◌≡◌, ℕ, ◌+◌, List, true, false, sym, ap, subst, inl, inr, ◌∙◌, arith}
 use Rattle.std.proofs.lemmas.Bool.Decides.{eqb_tells}
 use Rattle.std.specs.Prelude.{Some, slice_get}
-use Rattle.sk_clock.specs.Row.{RowView}
+use Rattle.sk_publishing.specs.Row.{RowView}
 use Rattle.sk_clock.specs.Clock.{ClockView}
-use Rattle.sk_triples.specs.Terms.{TripleView, seam}
+use Rattle.sk_line.specs.Triple.{TripleView}
+use Rattle.sk_publishing.specs.Terms.{seam}
 use Rattle.sk_fit.specs.declared.settings.Settings.{Settings}
 use Rattle.sk_fit.specs.Given.{terms_of}
 use Rattle.sk_fit.specs.Fitted.{is_new_tick, AreOldTicks, IsNewTick}

@@ -1,11 +1,11 @@
 -- The old observations stand before all new ones.
-use Rattle.std.proofs.Common.{◌≡◌, ◌⊎◌, ℕ, zero, suc, ◌+◌, ◌<◌, ◌≤◌, Bool, true, false, List, [], ◌∷◌, length, Some, refl, sym, ap, subst, inl, inr, ◌∙◌, arith}
+use Rattle.std.proofs.Common.{◌≡◌, ℕ, zero, suc, ◌+◌, ◌≤◌, Bool, true, false, List, length, Some, refl, sym, ap, subst, inl, inr, ◌∙◌, arith}
 use Rattle.std.proofs.lemmas.Bool.{cases_lt}
 use Rattle.std.proofs.lemmas.Option.{slice_get_cases, same_Some}
 use Rattle.std.specs.Prelude.{slice_get}
-use Rattle.sk_clock.specs.Row.{RowView, AreRows}
-use Rattle.sk_triples.specs.Terms.{Sight, Terms, sights}
-use Rattle.sk_triples.specs.Kept.{is_new}
+use Rattle.sk_publishing.specs.Row.{RowView, AreRows}
+use Rattle.sk_publishing.specs.Terms.{Terms, sights}
+use Rattle.sk_publishing.specs.Kept.{is_new}
 use Rattle.sk_fit.specs.Given.{sight_at}
 use Rattle.sk_fit.specs.State.{old_number}
 use Rattle.sk_fit.proofs.Observed.{AreOld, BeginsNew, count_news}

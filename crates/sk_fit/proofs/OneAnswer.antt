@@ -4,16 +4,17 @@ use Rattle.std.proofs.Math.Dec.{T_prop}
 use Rattle.std.proofs.lemmas.Bool.{cases_lt}
 use Rattle.std.proofs.lemmas.Option.{same_Some}
 use Rattle.std.specs.Prelude.{ℤ, pos, ◌<ℤ◌, slice_get, count_by, not}
-use Rattle.sk_clock.specs.Row.{RowView}
+use Rattle.sk_publishing.specs.Row.{RowView}
 use Rattle.sk_triples.specs.declared.triples.Fall.{Fall}
-use Rattle.sk_triples.specs.Terms.{Sight, TripleView}
-use Rattle.sk_triples.specs.Line.{FallsOver, IsFirstFall, fall_over}
-use Rattle.sk_triples.specs.Chain.{SegmentView}
-use Rattle.sk_triples.specs.Kept.{is_new, IsPublication, StopsAtNoRate, StopsAtTimeFall}
+use Rattle.sk_publishing.specs.Terms.{Sight}
+use Rattle.sk_line.specs.Triple.{TripleView}
+use Rattle.sk_line.specs.Line.{FallsOver, IsFirstFall, fall_over}
+use Rattle.sk_publishing.specs.Chain.{SegmentView}
+use Rattle.sk_publishing.specs.Kept.{is_new, IsPublication, StopsAtNoRate, StopsAtTimeFall}
 use Rattle.sk_triples.specs.Kernel.{HasFall}
-use Rattle.sk_triples.specs.Input.{Input, HasLast, IsBadHold, IsBandEmpty, Begins, AreTooMany}
-use Rattle.sk_triples.proofs.Lists.{Same, First_ends, Second_ends, fronts, heads, tails}
-use Rattle.sk_triples.proofs.Sorting.{one_publication, one_stop}
+use Rattle.sk_publishing.specs.Input.{Input, HasLast, IsBadHold, IsBandEmpty, Begins, AreTooMany}
+use Rattle.sk_line.proofs.Lists.{Same, First_ends, Second_ends, fronts, heads, tails}
+use Rattle.sk_publishing.proofs.Sorting.{one_publication, one_stop}
 use Rattle.sk_fit.specs.declared.chain.Chain.{Chain}
 use Rattle.sk_fit.specs.declared.fault.FitFault.{FitFault}
 use Rattle.sk_fit.specs.declared.fault.FitFault.TheVariants.{BadHold, OldFalls, BandEmpty, NoRate, TimeFalls, TooMany, NoMemory}
@@ -177,11 +178,16 @@ one_refusal x rows f g p q =
     let q' = refuses_at x rows g q in
     refusal_at x rows p'.0 f g p'.2 (subst (λ (old : TripleView). RefusesAt x rows old g) (one_last x q'.0 p'.0 q'.1 p'.1) q'.2)
 
-pub gives_unrefused : (x : Input) (rows : List RowView) (chain : Chain) (fault : FitFault) → Gives x chain → ¬ Refuses x rows fault
-gives_unrefused x rows chain fault g r =
+-- a publication that exists is not refused
+pub published_unrefused : (x : Input) (rows : List RowView) (old : TripleView) (dropped : List Sight) (chain : List SegmentView) (fault : FitFault)
+    → Begins x old → IsPublication (x.terms old) x.all dropped chain → ¬ AreTooMany x chain → ¬ Refuses x rows fault
+published_unrefused x rows old dropped chain fault begins publication few r =
     let r' = refuses_at x rows fault r in
-    unrefused_at x rows g.old g.dropped (segments_of x.all chain) fault g.begins g.publication g.few
-    (subst (λ (old : TripleView). RefusesAt x rows old fault) (one_last x r'.0 g.old r'.1 g.begins.last) r'.2)
+    unrefused_at x rows old dropped chain fault begins publication few
+    (subst (λ (last : TripleView). RefusesAt x rows last fault) (one_last x r'.0 old r'.1 begins.last) r'.2)
+
+pub gives_unrefused : (x : Input) (rows : List RowView) (chain : Chain) (fault : FitFault) → Gives x chain → ¬ Refuses x rows fault
+gives_unrefused x rows chain fault g = published_unrefused x rows g.old g.dropped (segments_of x.all chain) fault g.begins g.publication g.few
 
 -- two publications of one input are equal
 pub one_gives : (x : Input) (a b : Chain) → Gives x a → Gives x b → (a.first_new ≡ b.first_new) × (a.dropped ≡ b.dropped) × (segments_of x.all a ≡ segments_of x.all b)

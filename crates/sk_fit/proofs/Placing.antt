@@ -1,14 +1,14 @@
 -- The places of segments after one more observation.
 use Rattle.std.proofs.Common.{◌≡◌, ℕ, ◌+◌, ◌≤◌, Bool, List, [], ◌∷◌, ◌++◌, refl, sym, ap, subst, inl, inr, ◌∙◌, if◌then◌else◌}
 use Rattle.std.proofs.lemmas.Bool.Decides.{eqb_tells}
-use Rattle.std.specs.Prelude.{ℤ, ◌==◌, Option, Some}
+use Rattle.std.specs.Prelude.{◌==◌, Option, Some}
 use Rattle.sk_decimal.specs.declared.fixed.Fixed.{Fixed}
-use Rattle.sk_fit.specs.declared.settings.Line.{Line}
+use Rattle.sk_fit.specs.declared.ending.Beginning.{Beginning}
 use Rattle.sk_fit.specs.declared.chain.Segment.{Segment}
 use Rattle.sk_fit.specs.declared.chain.End.{End}
-use Rattle.sk_triples.specs.Terms.{Sight}
-use Rattle.sk_triples.specs.Chain.{SegmentView, ForNext, last_of}
-use Rattle.sk_triples.proofs.Lists.{all_front, all_back, all_append, all_map, all_both}
+use Rattle.sk_publishing.specs.Terms.{Sight}
+use Rattle.sk_publishing.specs.Chain.{SegmentView, ForNext, last_of}
+use Rattle.sk_line.proofs.Lists.{all_front, all_back, all_append, all_map, all_both}
 use Rattle.sk_fit.specs.Given.{covered_between, IsPlaced, ArePlaced}
 use Rattle.sk_fit.specs.State.{FittingView, first_from, gone_on, begun_at, HasPlaces, IsAt}
 use Rattle.sk_fit.proofs.Places.{covers_none, covers_same}
@@ -53,13 +53,13 @@ module _ (k : ℕ) (all : List Sight) (n : ℕ) (f : FittingView) (dropped : Lis
       none : f.open_one.first ≡ f.open_one.past → covered_between all f.dropped f.open_one.first f.open_one.past ≡ []
       none e = ap (λ (m : ℕ). covered_between all f.dropped m f.open_one.past) e ∙ covers_none all f.dropped f.open_one.past
 
-  pub placed_begun : (o : Sight) (ended : End) (anchor : Line) (rate : Fixed 18) (least greatest : ℤ) → IsAt all n o
-      → ArePlaced k all f.dropped ((f.closed ++ record f.open_one { ended = ended } ∷ []) ++ (begun_at f ended anchor rate n o.tick least greatest).open_one ∷ [])
-  placed_begun o ended anchor rate least greatest at =
+  pub placed_begun : (o : Sight) (ended : End) (b : Beginning) → IsAt all n o
+      → ArePlaced k all f.dropped ((f.closed ++ record f.open_one { ended = ended } ∷ []) ++ (begun_at f ended b n o.tick).open_one ∷ [])
+  placed_begun o ended b at =
       let closed : List Segment = f.closed ++ record f.open_one { ended = ended } ∷ [] in
-      let begun : List Segment = (begun_at f ended anchor rate n o.tick least greatest).open_one ∷ [] in
+      let begun : List Segment = (begun_at f ended b n o.tick).open_one ∷ [] in
       all_append _ closed begun (all_append _ f.closed (record f.open_one { ended = ended } ∷ []) closed_placed (open_placed, tt)) (
-        subst (λ (c : List Sight). IsPlaced k c n (n + 1)) (sym (ap (λ (s : SegmentView). s.covered) (open_begun all n f dropped o ended anchor rate least greatest h at)))
+        subst (λ (c : List Sight). IsPlaced k c n (n + 1)) (sym (ap (λ (s : SegmentView). s.covered) (open_begun all n f dropped o ended b h at)))
             (one_placed k n o at.place),
         tt,
       )

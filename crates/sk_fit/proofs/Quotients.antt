@@ -7,12 +7,13 @@ use lib.Signed.{mag}
 use Rattle.std.proofs.Math.Nat.{pow-le-pow_right}
 use Rattle.std.specs.Prelude.{ℤ, pos, negsuc, neg_ℤ, nat_abs, ◌+ℤ◌, ◌-ℤ◌, ◌*ℤ◌, ◌≤ℤ◌, ◌<ℤ◌}
 use Rattle.sk_decimal.specs.Quotient.{floor_quotient, ceiling_quotient}
-use Rattle.sk_triples.specs.Terms.{Sight, Anchor, Gauge, grid}
-use Rattle.sk_triples.specs.Line.{scaled, IsTooSmall, IsTooLarge, Meets}
-use Rattle.sk_triples.specs.Rates.{IsLeast, IsGreatest, IsAllowed, IsBand, on_grid, IsLeastRate, IsGreatestRate, BandView, InBand}
+use Rattle.sk_publishing.specs.Terms.{Sight, Gauge, grid}
+use Rattle.sk_line.specs.Triple.{Anchor}
+use Rattle.sk_publishing.specs.Meets.{scaled, IsTooSmall, IsTooLarge, Meets}
+use Rattle.sk_publishing.specs.Rates.{IsLeast, IsGreatest, IsAllowed, IsBand, on_grid, IsLeastRate, IsGreatestRate, BandView, InBand}
 use Rattle.sk_decimal.proofs.Signed.{mul-le_right, <ℤ-or-≤ℤ}
 use Rattle.sk_decimal.proofs.Quotients.{floor_below, floor_greatest, ceiling_above, ceiling_least}
-use Rattle.sk_triples.proofs.RoundedUp.{twice}
+use Rattle.sk_line.proofs.Products.{twice}
 use Rattle.sk_fit.specs.Gains.{Gains, Keeps, IsLeastGain, IsGreatestGain}
 
 pub through : (a b c : ℤ) → a ≤ℤ b → b ≤ℤ c → a ≤ℤ c

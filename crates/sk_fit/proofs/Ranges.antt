@@ -5,21 +5,24 @@ use Rattle.std.proofs.lemmas.Int.{ints, by_lt_z}
 use Rattle.std.proofs.lemmas.Bool.Decides.{leb_tells}
 use Rattle.std.proofs.Math.Nat.{mul-le-mul_left, one-le-mul}
 use Rattle.std.specs.Prelude.{ℤ, pos, neg_ℤ, ◌+ℤ◌, ◌-ℤ◌, ◌*ℤ◌, ◌≤ℤ◌, ◌<ℤ◌, nat_le}
-use Rattle.sk_clock.specs.Clock.{ClockView, ticks_per, partition_from}
-use Rattle.sk_triples.specs.Terms.{Sight, Anchor, Gauge, Terms, TripleView, partition_at, unit, in_seconds}
-use Rattle.sk_triples.specs.Line.{Meets, line_at, line_over, scaled}
-use Rattle.sk_triples.specs.Rates.{on_grid, BandView, InBand, IsBand, IsLeastRate, IsGreatestRate}
-use Rattle.sk_triples.specs.Chain.{SegmentView, IsAllowedStep, rounded_up}
-use Rattle.sk_triples.proofs.Fitting.{between}
-use Rattle.sk_triples.proofs.RoundedUp.{rounding_law, twice, power_positive}
+use Rattle.sk_clock.specs.Clock.{ticks_per, partition_from}
+use Rattle.sk_publishing.specs.Terms.{Sight, Gauge, Terms, partition_at, unit, in_seconds}
+use Rattle.sk_line.specs.Triple.{Anchor}
+use Rattle.sk_publishing.specs.Meets.{Meets, line_at, scaled}
+use Rattle.sk_line.specs.Line.{line_over}
+use Rattle.sk_publishing.specs.Rates.{BandView, InBand, IsBand, IsLeastRate, IsGreatestRate}
+use Rattle.sk_publishing.specs.Chain.{SegmentView, IsAllowedStep, rounded_up}
+use Rattle.sk_publishing.proofs.Fitting.{between}
+use Rattle.sk_publishing.proofs.RoundedUp.{rounding_law}
+use Rattle.sk_line.proofs.Products.{twice, power_positive}
 use Rattle.sk_decimal.proofs.Quotients.{ceiling_above, ceiling_least}
-use Rattle.sk_triples.proofs.Bounds.{least_rate_le, greatest_rate_ge, meets_not_small, meets_not_large}
 use Rattle.sk_decimal.specs.Quotient.{ceiling_quotient}
 use Rattle.std.specs.List.{AllByRecursion}
-use Rattle.sk_fit.specs.declared.settings.Settings.{Settings}
 use Rattle.sk_decimal.proofs.Signed.{mul-le_right, ≤ℤ-antisym, add-mul}
-use Rattle.sk_fit.specs.Given.{AreSettings, gauge_of, terms_of}
-use Rattle.sk_fit.specs.State.{HoldsDue, IsSmallClock}
+use Rattle.sk_fit.specs.Given.{sight_at}
+use Rattle.sk_fit.specs.State.{HoldsDue}
+use Rattle.sk_fit.specs.Context.{FitView, IsNext, terms}
+use Rattle.sk_publishing.specs.Row.{RowView}
 
 -- ---- partitions
 
@@ -88,15 +91,16 @@ due_holds t s o some m from to = record {
   to = through _ _ _ (rounding_law.tolerance t s o.tick o some m.high) to;
 }
 
-pub due_near : (settings : Settings) (clock : ClockView) (old : TripleView) (s : SegmentView) (o : Sight) → AreSettings settings → IsSmallClock clock
-    → neg_ℤ (pos (9 * 10 ^ 21)) ≤ℤ o.time → o.time ≤ℤ pos (9 * 10 ^ 21)
-    → Meets (gauge_of settings clock) s.anchor s.rate o → HoldsDue (terms_of settings clock old) s o.tick
-due_near settings clock old s o given clocked from to met =
-    let a = given.tolerance_from in
-    let b = given.tolerance_to in
-    due_holds (terms_of settings clock old) s o clocked.some met
-    (scaled_from (o.time -ℤ settings.tolerance.units) (ticks_per clock) (omega (arith, ints)) clocked.few)
-    (scaled_to (o.time +ℤ settings.tolerance.units) (ticks_per clock) (omega (arith, ints)) clocked.few)
+pub due_near : (fit : FitView) (n : ℕ) (row : RowView) → IsNext fit n row → (s : SegmentView)
+    → Meets (terms fit).gauge s.anchor s.rate (sight_at n row) → HoldsDue (terms fit) s row.tick
+due_near fit n row next s met =
+    let a = next.given.ranges.tolerance_from in
+    let b = next.given.ranges.tolerance_to in
+    let from = next.from in
+    let to = next.to in
+    due_holds (terms fit) s (sight_at n row) next.given.clocked.some met
+    (scaled_from (row.time -ℤ fit.settings.tolerance.units) (ticks_per fit.clock) (omega (arith, ints)) next.given.clocked.few)
+    (scaled_to (row.time +ℤ fit.settings.tolerance.units) (ticks_per fit.clock) (omega (arith, ints)) next.given.clocked.few)
 
 -- ---- the first observation of another partition
 
@@ -124,17 +128,6 @@ meets_anchor g o rate h = record {
       where
         same : (a : ℤ) → a +ℤ pos 0 ≡ a
         same a = omega (arith, ints)
-
--- so its least rate is not above its greatest one
-pub filled_anew : (t : Terms) (o : Sight) (band least greatest : ℤ) → pos 0 ≤ℤ t.gauge.tolerance → IsAllowedStep t band
-    → IsLeastRate (IsAllowedStep t) t.gauge (record { ticks = o.tick; time = in_seconds t.gauge o.time }) o least
-    → IsGreatestRate (IsAllowedStep t) t.gauge (record { ticks = o.tick; time = in_seconds t.gauge o.time }) o greatest → least ≤ℤ greatest
-filled_anew t o band least greatest h a p q =
-    let anchor : Anchor = record { ticks = o.tick; time = in_seconds t.gauge o.time } in
-    let met : Meets t.gauge anchor (on_grid t.gauge.rate_decimals band) o = meets_anchor t.gauge o (on_grid t.gauge.rate_decimals band) h in
-    through least band greatest
-    (least_rate_le (IsAllowedStep t) t.gauge anchor o least band p a (meets_not_small t.gauge anchor (on_grid t.gauge.rate_decimals band) o met))
-    (greatest_rate_ge (IsAllowedStep t) t.gauge anchor o greatest band q a (meets_not_large t.gauge anchor (on_grid t.gauge.rate_decimals band) o met))
 
 -- ---- a segment that covers nothing past its anchor
 

@@ -1,10 +1,10 @@
 -- What stops a publication is a cause to refuse it; and a clock is small.
 use Rattle.std.proofs.Common.{◌≡◌, ◌⊎◌, List, refl, inl, inr}
-use Rattle.sk_clock.specs.Row.{RowView}
+use Rattle.sk_publishing.specs.Row.{RowView}
 use Rattle.sk_clock.specs.Clock.{ClockView}
-use Rattle.sk_triples.specs.Terms.{TripleView}
+use Rattle.sk_line.specs.Triple.{TripleView}
 use Rattle.sk_triples.specs.Kernel.{TriplesView}
-use Rattle.sk_triples.specs.Input.{Begins}
+use Rattle.sk_publishing.specs.Input.{Begins}
 use Rattle.sk_fit.specs.declared.settings.Settings.{Settings}
 use Rattle.sk_fit.specs.declared.fault.FitFault.{FitFault}
 use Rattle.sk_fit.specs.declared.fault.FitFault.TheVariants.{BadHold, OldFalls, BandEmpty, NoRate, TimeFalls, TooMany, NoMemory}

@@ -3,11 +3,12 @@ use Rattle.std.proofs.Common.{◌≡◌, ℕ, ◌+◌, ◌↔◌, List, [], ◌�
 use Rattle.std.proofs.lemmas.Int.{ints}
 use Rattle.std.specs.Prelude.{ℤ, ◌≤ℤ◌, ◌<ℤ◌}
 use Rattle.std.specs.List.{AllByRecursion}
-use Rattle.sk_triples.specs.Terms.{sights, sights_from, Sight, Anchor, Gauge}
-use Rattle.sk_triples.specs.Line.{Meets}
-use Rattle.sk_triples.specs.Rates.{BandView, InBand, IsLeast, IsGreatest, on_grid, IsLeastRate, IsGreatestRate, MeetsAll}
-use Rattle.sk_triples.proofs.Bounds.{least_rate_le, le_least_rate, greatest_rate_ge, ge_greatest_rate, meets_not_small, meets_not_large, meets_between}
-use Rattle.sk_clock.specs.Row.{RowView}
+use Rattle.sk_publishing.specs.Terms.{sights, sights_from, Sight, Gauge}
+use Rattle.sk_line.specs.Triple.{Anchor}
+use Rattle.sk_publishing.specs.Meets.{Meets}
+use Rattle.sk_publishing.specs.Rates.{BandView, InBand, IsLeast, IsGreatest, on_grid, IsLeastRate, IsGreatestRate, MeetsAll}
+use Rattle.sk_publishing.proofs.Bounds.{least_rate_le, le_least_rate, greatest_rate_ge, ge_greatest_rate, meets_not_small, meets_not_large, meets_between}
+use Rattle.sk_publishing.specs.Row.{RowView}
 use Rattle.sk_fit.specs.Given.{sight_at}
 
 module _ (g : Gauge) (band : BandView) (anchor : Anchor) where

@@ -9,14 +9,16 @@ use Rattle.sk_decimal.specs.Quotient.{floor_quotient, ceiling_quotient}
 use Rattle.sk_decimal.proofs.Quotients.{neg-mul, floor_above}
 use Rattle.sk_decimal.proofs.Signed.{mul-le_right, add-mul}
 use Rattle.sk_clock.specs.Clock.{ClockView, ticks_per, total}
-use Rattle.sk_triples.specs.Terms.{Sight, TripleView, Terms, unit, partition_at, hold_of, seam}
-use Rattle.sk_triples.specs.Line.{line_at}
-use Rattle.sk_triples.specs.Chain.{SegmentView, LastEnd, IsChain, left_at, rounded_up}
-use Rattle.sk_triples.specs.Kept.{is_new}
+use Rattle.sk_publishing.specs.Terms.{Sight, Terms, unit, partition_at, hold_of, seam}
+use Rattle.sk_line.specs.Triple.{TripleView}
+use Rattle.sk_publishing.specs.Meets.{line_at}
+use Rattle.sk_publishing.specs.Chain.{SegmentView, LastEnd, IsChain, left_at, rounded_up}
+use Rattle.sk_publishing.specs.Kept.{is_new}
 use Rattle.sk_triples.specs.Kernel.{IsTriple}
-use Rattle.sk_triples.specs.Built.{Built}
-use Rattle.sk_triples.proofs.Lists.{all_map}
-use Rattle.sk_triples.proofs.RoundedUp.{rounding_law, twice, power_positive}
+use Rattle.sk_publishing.specs.Built.{Built}
+use Rattle.sk_line.proofs.Lists.{all_map}
+use Rattle.sk_publishing.proofs.RoundedUp.{rounding_law}
+use Rattle.sk_line.proofs.Products.{twice, power_positive}
 use Rattle.sk_fit.specs.declared.settings.Settings.{Settings}
 use Rattle.sk_fit.specs.Given.{terms_of, IsPlaced}
 use Rattle.sk_fit.specs.State.{IsSmallClock, HoldsDue, HasPlaces, IsOpen, IsFitting, fresh, open_of, old_number}

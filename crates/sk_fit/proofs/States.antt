@@ -5,14 +5,15 @@ use Rattle.std.specs.Prelude.{ℤ}
 use Rattle.std.specs.List.{AllByRecursion}
 use Rattle.std.proofs.lemmas.Bool.Decides.{eqb_tells}
 use Rattle.sk_decimal.specs.declared.fixed.Fixed.{Fixed}
-use Rattle.sk_fit.specs.declared.settings.Line.{Line}
+use Rattle.sk_fit.specs.declared.ending.Beginning.{Beginning}
 use Rattle.sk_fit.specs.declared.chain.Segment.{Segment}
 use Rattle.sk_fit.specs.declared.chain.End.{End}
-use Rattle.sk_triples.specs.Terms.{Sight, Anchor, Terms}
-use Rattle.sk_triples.specs.Chain.{EndView, LastEnd, SegmentView}
-use Rattle.sk_triples.specs.Built.{longer, beginning}
-use Rattle.sk_triples.proofs.Lists.{all_append, all_map}
-use Rattle.sk_triples.proofs.Steps.{ended_as}
+use Rattle.sk_publishing.specs.Terms.{Sight, Terms}
+use Rattle.sk_line.specs.Triple.{Anchor}
+use Rattle.sk_publishing.specs.Chain.{EndView, LastEnd, SegmentView}
+use Rattle.sk_publishing.specs.Built.{longer, beginning}
+use Rattle.sk_line.proofs.Lists.{all_append, all_map}
+use Rattle.sk_publishing.proofs.Steps.{ended_as}
 use Rattle.sk_fit.specs.Given.{segment_view, end_view, anchor_of, covered_between}
 use Rattle.sk_fit.specs.State.{FittingView, first_from, gone_on, begun_at, dropped_at, front_of, open_of, HasPlaces, IsAt}
 use Rattle.sk_fit.proofs.Places.{Gap, is_in, covers_more, covers_none, covers_same, gap_more, no_gap, in_none}
@@ -48,15 +49,15 @@ pub open_on : (all : List Sight) (n : ℕ) (f : FittingView) (dropped : List Sig
     → open_of all (gone_on f n o.tick rate) ≡ longer (open_of all f) o rate.units
 open_on all n f dropped o rate h a = ap (made (anchor_of f.open_one.anchor) rate.units LastEnd) (covers_on all n f dropped o h a)
 
-pub open_begun : (all : List Sight) (n : ℕ) (f : FittingView) (dropped : List Sight) (o : Sight) (ended : End) (anchor : Line) (rate : Fixed 18) (least greatest : ℤ)
+pub open_begun : (all : List Sight) (n : ℕ) (f : FittingView) (dropped : List Sight) (o : Sight) (ended : End) (b : Beginning)
     → HasPlaces all n f dropped → IsAt all n o
-    → open_of all (begun_at f ended anchor rate n o.tick least greatest) ≡ beginning (anchor_of anchor) o rate.units
-open_begun all n f dropped o ended anchor rate least greatest h a =
-    ap (made (anchor_of anchor) rate.units LastEnd) (covers_one all n f.dropped o a (in_none f.dropped n h.dropped_before))
+    → open_of all (begun_at f ended b n o.tick) ≡ beginning (anchor_of b.anchor) o b.rate.units
+open_begun all n f dropped o ended b h a =
+    ap (made (anchor_of b.anchor) b.rate.units LastEnd) (covers_one all n f.dropped o a (in_none f.dropped n h.dropped_before))
 
-pub front_begun : (t : Terms) (all : List Sight) (n : ℕ) (f : FittingView) (o : Sight) (ended : End) (anchor : Line) (rate : Fixed 18) (least greatest : ℤ)
-    → front_of all (begun_at f ended anchor rate n o.tick least greatest) ≡ front_of all f ++ ended_as t (open_of all f) (end_view ended) ∷ []
-front_begun t all n f o ended anchor rate least greatest = map-append (segment_view all f.dropped) f.closed (record f.open_one { ended = ended } ∷ [])
+pub front_begun : (t : Terms) (all : List Sight) (n : ℕ) (f : FittingView) (o : Sight) (ended : End) (b : Beginning)
+    → front_of all (begun_at f ended b n o.tick) ≡ front_of all f ++ ended_as t (open_of all f) (end_view ended) ∷ []
+front_begun t all n f o ended b = map-append (segment_view all f.dropped) f.closed (record f.open_one { ended = ended } ∷ [])
 
 pub open_dropped : (all : List Sight) (n : ℕ) (f : FittingView) (dropped : List Sight) → HasPlaces all n f dropped
     → open_of all (dropped_at f n) ≡ open_of all f
@@ -95,9 +96,9 @@ places_on all n f dropped tick rate h = record {
   gap = inr (no_gap all f.dropped (n + 1));
 }
 
-pub places_begun : (all : List Sight) (n : ℕ) (f : FittingView) (dropped : List Sight) (tick : ℕ) (ended : End) (anchor : Line) (rate : Fixed 18) (least greatest : ℤ)
-    → HasPlaces all n f dropped → HasPlaces all (n + 1) (begun_at f ended anchor rate n tick least greatest) dropped
-places_begun all n f dropped tick ended anchor rate least greatest h = record {
+pub places_begun : (all : List Sight) (n : ℕ) (f : FittingView) (dropped : List Sight) (tick : ℕ) (ended : End) (b : Beginning)
+    → HasPlaces all n f dropped → HasPlaces all (n + 1) (begun_at f ended b n tick) dropped
+places_begun all n f dropped tick ended b h = record {
   places = h.places;
   dropped_before = weaker_places n f.dropped h.dropped_before;
   closed_before = all_append _ f.closed (record f.open_one { ended = ended } ∷ []) (weaker_segments n f.closed h.closed_before) ((let p = h.open_before in omega arith), tt);

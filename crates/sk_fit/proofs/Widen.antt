@@ -1,43 +1,42 @@
 -- The running interval with one more observation.
-use Rattle.std.proofs.Common.{◌≡◌, ℕ, ◌*◌, ◌^◌, ◌<◌, ◌≤◌, List, [], ◌∷◌, ◌++◌, length, sym, subst, ◌∙◌, arith, map}
+use Rattle.std.proofs.Common.{◌≡◌, ℕ, ◌*◌, ◌^◌, ◌<◌, List, [], ◌∷◌, ◌++◌, length, sym, subst, ◌∙◌, arith, Bool, false, IsTrue}
 use Rattle.std.proofs.lemmas.Int.{ints, by_lt_z}
-use Rattle.std.specs.Prelude.{ℤ, pos, ◌≤ℤ◌, ◌<ℤ◌}
-use Rattle.sk_clock.specs.Clock.{ClockView}
-use Rattle.sk_clock.specs.Row.{RowView}
-use Rattle.sk_triples.specs.Terms.{Sight, Anchor, Terms, TripleView}
-use Rattle.sk_triples.specs.Rates.{IsBand, BandView, on_grid, IsLeastRate, IsGreatestRate, IsFirstGreatest, IsFirstLeast}
-use Rattle.sk_triples.specs.Chain.{IsAllowedStep}
-use Rattle.sk_triples.proofs.Interval.{greatest_stays, greatest_moves, least_stays, least_moves, least_allowed, greatest_allowed}
-use Rattle.sk_fit.specs.declared.chain.Segment.{Segment}
-use Rattle.sk_fit.specs.declared.settings.Settings.{Settings}
-use Rattle.sk_fit.specs.declared.state.Running.{Running}
-use Rattle.sk_fit.specs.Given.{CanMeet, sight_at, terms_of, segment_view, IsUsableBand}
-use Rattle.sk_fit.specs.State.{FittingView, IsFitting, IsBuilt, IsNextOne, open_of}
+use Rattle.std.specs.Prelude.{ℤ, pos, ◌≤ℤ◌, ◌<ℤ◌, ◌↔◌}
+use Rattle.sk_publishing.specs.Row.{RowView}
+use Rattle.sk_publishing.specs.Terms.{Sight, Terms}
+use Rattle.sk_publishing.specs.Meets.{Meets}
+use Rattle.sk_publishing.specs.Rates.{on_grid, IsLeastRate, IsGreatestRate, IsFirstGreatest, IsFirstLeast}
+use Rattle.sk_publishing.specs.Chain.{IsAllowedStep}
+use Rattle.sk_publishing.specs.Built.{middle_rate}
+use Rattle.sk_line.proofs.Lists.{all_back}
+use Rattle.sk_publishing.proofs.Fitting.{middle_meets}
+use Rattle.sk_publishing.proofs.Interval.{greatest_stays, greatest_moves, least_stays, least_moves, least_allowed, greatest_allowed}
+use Rattle.sk_fit.specs.declared.open_segment.Running.{Running}
+use Rattle.sk_fit.specs.Given.{CanMeet, sight_at}
+use Rattle.sk_fit.specs.State.{FittingView, IsFitting, open_of}
 use Rattle.sk_fit.specs.Pairs.{IsRunning}
-use Rattle.sk_fit.proofs.Moves.{after_anchor}
+use Rattle.sk_fit.specs.Context.{FitView, terms, all_of, IsFit, IsNext, IsBuiltTo}
+use Rattle.sk_fit.proofs.Moves.{after_anchor, some_front}
 use Rattle.sk_fit.proofs.Ranges.{in_band}
+use Rattle.sk_fit.proofs.Answered.{untrue}
 use Rattle.sk_fit.proofs.Quotients.{slow_band}
 
--- the open segment's line can be compared with the next observation
-pub can_meet : (settings : Settings) (clock : ClockView) (old : TripleView) (all : List Sight) (n : ℕ) (f : FittingView) (obs : RowView)
-    → IsBuilt (terms_of settings clock old) all n f → IsNextOne (terms_of settings clock old) clock all n (sight_at n obs)
-    → CanMeet clock f.open_one.anchor obs
-can_meet settings clock old all n f obs b next =
-    let h = b.2 in
-    let after = after_anchor (terms_of settings clock old) all n f (sight_at n obs) b.1 next.at next.rises h.is_open h.places in
+-- the observation is after the open segment's anchor, so its line can be compared with it
+pub after_open : (fit : FitView) (n : ℕ) (row : RowView) (f : FittingView) → IsBuiltTo fit n f → IsNext fit n row → f.open_one.anchor.ticks < row.tick
+after_open fit n row f built next = after_anchor (terms fit) (all_of fit) n f (sight_at n row) built.1 next.at next.rises built.2.is_open built.2.places
+
+pub can_meet_open : (fit : FitView) (n : ℕ) (row : RowView) (f : FittingView) → IsBuiltTo fit n f → IsNext fit n row → CanMeet fit.clock f.open_one.anchor row
+can_meet_open fit n row f built next =
+    let after = after_open fit n row f built next in
     record {
       not_before = omega arith;
       not_past = next.not_past;
-      from = h.is_open.line.from;
-      to = h.is_open.line.to;
+      from = built.2.is_open.line.from;
+      to = built.2.is_open.line.to;
     }
 
 module _ (t : Terms) (all : List Sight) (n : ℕ) (f : FittingView) (o : Sight) (kept dropped : List Sight) (h : IsFitting t all n f kept dropped)
     (some : 0 < length f.closed) (here : o.place ≡ n) where
-  some_front : (xs : List Segment) → 0 < length xs → 0 < length (map (segment_view all f.dropped) xs)
-  some_front [] k = absurd (omega arith)
-  some_front (x ∷ xs) k = omega arith
-
   abbrev Low : ℕ → ℤ → Type 0
   Low place least = (first : Sight) × (place ≡ first.place)
       × IsFirstGreatest (IsAllowedStep t) t.gauge (open_of all f).anchor ((open_of all f).covered ++ o ∷ []) first least
@@ -47,9 +46,9 @@ module _ (t : Terms) (all : List Sight) (n : ℕ) (f : FittingView) (o : Sight) 
       × IsFirstLeast (IsAllowedStep t) t.gauge (open_of all f).anchor ((open_of all f).covered ++ o ∷ []) second greatest
 
   widen_low : (bound : ℤ) (place : ℕ) (least : ℤ) → IsLeastRate (IsAllowedStep t) t.gauge (open_of all f).anchor o bound
-      → (f.least <ℤ bound → (place ≡ n) × (least ≡ bound)) → (bound ≤ℤ f.least → (place ≡ f.low) × (least ≡ f.least)) → Low place least
+      → (f.least <ℤ bound → (place ≡ n) × (least ≡ bound)) → (bound ≤ℤ f.least → (place ≡ f.least_place) × (least ≡ f.least)) → Low place least
   widen_low bound place least r moves stays =
-      let i = h.built.interval (some_front f.closed some) in
+      let i = h.built.interval (some_front all f some) in
       by_lt_z f.least bound
       (λ lt. (let m = moves lt in (
         o,
@@ -65,9 +64,9 @@ module _ (t : Terms) (all : List Sight) (n : ℕ) (f : FittingView) (o : Sight) 
       )))
 
   widen_high : (bound : ℤ) (place : ℕ) (greatest : ℤ) → IsGreatestRate (IsAllowedStep t) t.gauge (open_of all f).anchor o bound
-      → (bound <ℤ f.greatest → (place ≡ n) × (greatest ≡ bound)) → (f.greatest ≤ℤ bound → (place ≡ f.high) × (greatest ≡ f.greatest)) → High place greatest
+      → (bound <ℤ f.greatest → (place ≡ n) × (greatest ≡ bound)) → (f.greatest ≤ℤ bound → (place ≡ f.greatest_place) × (greatest ≡ f.greatest)) → High place greatest
   widen_high bound place greatest r moves stays =
-      let i = h.built.interval (some_front f.closed some) in
+      let i = h.built.interval (some_front all f some) in
       by_lt_z bound f.greatest
       (λ lt. (let m = moves lt in (
         o,
@@ -83,48 +82,45 @@ module _ (t : Terms) (all : List Sight) (n : ℕ) (f : FittingView) (o : Sight) 
       )))
 
   pub widened_by : (bl bg : ℤ) (r : Running) → IsLeastRate (IsAllowedStep t) t.gauge (open_of all f).anchor o bl → IsGreatestRate (IsAllowedStep t) t.gauge (open_of all f).anchor o bg
-      → (f.least <ℤ bl → (r.low ≡ n) × (r.least ≡ bl)) → (bl ≤ℤ f.least → (r.low ≡ f.low) × (r.least ≡ f.least))
-      → (bg <ℤ f.greatest → (r.high ≡ n) × (r.greatest ≡ bg)) → (f.greatest ≤ℤ bg → (r.high ≡ f.high) × (r.greatest ≡ f.greatest))
+      → (f.least <ℤ bl → (r.least_place ≡ n) × (r.bounds.least ≡ bl)) → (bl ≤ℤ f.least → (r.least_place ≡ f.least_place) × (r.bounds.least ≡ f.least))
+      → (bg <ℤ f.greatest → (r.greatest_place ≡ n) × (r.bounds.greatest ≡ bg)) → (f.greatest ≤ℤ bg → (r.greatest_place ≡ f.greatest_place) × (r.bounds.greatest ≡ f.greatest))
       → IsRunning t all f o r
   widened_by bl bg r p q a b c d =
-      let low = widen_low bl r.low r.least p a b in
-      let high = widen_high bg r.high r.greatest q c d in
+      let low = widen_low bl r.least_place r.bounds.least p a b in
+      let high = widen_high bg r.greatest_place r.bounds.greatest q c d in
       record { first = low.0; second = high.0; low_place = low.1; high_place = high.1; is_low = low.2; is_high = high.2 }
 
--- where it is filled its ends are rates of the band
+-- an interval that is not empty is filled
+pub between : {b : Bool} {least greatest : ℤ} → (IsTrue b ↔ (greatest <ℤ least)) → b ≡ false → least ≤ℤ greatest
+between {b} {least} {greatest} is e = by_lt_z greatest least (λ less. absurd (untrue b e (is.1 less))) (λ le. le)
+
+-- where it is filled its ends are allowed rates, and the middle one meets the next observation too
+pub record Filled (t : Terms) (all : List Sight) (f : FittingView) (o : Sight) (r : Running) : Type 0 where
+  pub least : IsAllowedStep t r.bounds.least
+  pub greatest : IsAllowedStep t r.bounds.greatest
+  pub met : Meets t.gauge (open_of all f).anchor (middle_rate t r.bounds.least r.bounds.greatest) o
+
+pub filled_run : (t : Terms) (all : List Sight) (f : FittingView) (o : Sight) (r : Running) → IsRunning t all f o r → r.bounds.least ≤ℤ r.bounds.greatest → Filled t all f o r
+filled_run t all f o r run h = record {
+  least = least_allowed (IsAllowedStep t) t.gauge (open_of all f).anchor run.first run.second r.bounds.least r.bounds.greatest run.is_low.is_bound run.is_high.is_bound h;
+  greatest = greatest_allowed (IsAllowedStep t) t.gauge (open_of all f).anchor run.first run.second r.bounds.least r.bounds.greatest run.is_low.is_bound run.is_high.is_bound h;
+  met = (all_back _ (open_of all f).covered (o ∷ []) (middle_meets t (open_of all f).anchor ((open_of all f).covered ++ o ∷ []) run.first run.second r.bounds.least r.bounds.greatest run.is_low run.is_high h).1).0;
+}
+
+-- the sizes of allowed rates
 pub record Ends (rate_decimals : ℕ) (least greatest : ℤ) : Type 0 where
   pub positive : pos 1 ≤ℤ least
   pub small : greatest ≤ℤ pos (10 ^ 18)
   pub slow : on_grid rate_decimals greatest ≤ℤ pos (1000 * 10 ^ 18)
 
-pub filled_ends : (t : Terms) (band : BandView) (all : List Sight) (f : FittingView) (o : Sight) (r : Running) → t.gauge.rate_decimals ≤ 15
-    → IsUsableBand t.gauge.rate_decimals band → IsBand (IsAllowedStep t) band → IsRunning t all f o r → r.least ≤ℤ r.greatest
-    → Ends t.gauge.rate_decimals r.least r.greatest
-filled_ends t band all f o r few usable is_band run h =
-    let a = least_allowed (IsAllowedStep t) t.gauge (open_of all f).anchor run.first run.second r.least r.greatest run.is_low.is_bound run.is_high.is_bound h in
-    let b = greatest_allowed (IsAllowedStep t) t.gauge (open_of all f).anchor run.first run.second r.least r.greatest run.is_low.is_bound run.is_high.is_bound h in
-    let low = (in_band t band is_band r.least a).low in
-    let high = (in_band t band is_band r.greatest b).high in
-    let p = usable.positive in
+pub allowed_ends : (fit : FitView) (least greatest : ℤ) → IsFit fit → IsAllowedStep (terms fit) least → IsAllowedStep (terms fit) greatest
+    → Ends fit.settings.rate_decimals least greatest
+allowed_ends fit least greatest given a b =
+    let low = (in_band (terms fit) _ given.allowed least a).low in
+    let high = (in_band (terms fit) _ given.allowed greatest b).high in
+    let p = given.usable.positive in
     record {
       positive = omega (arith, ints);
-      small = slow_band t.gauge.rate_decimals r.greatest few (let s = usable.slow in omega (arith, ints));
-      slow = b.most;
-    }
-
--- the same of the bounds of one observation
-pub one_ends : (t : Terms) (band : BandView) (anchor : Anchor) (o : Sight) (least greatest : ℤ) → t.gauge.rate_decimals ≤ 15
-    → IsUsableBand t.gauge.rate_decimals band → IsBand (IsAllowedStep t) band
-    → IsLeastRate (IsAllowedStep t) t.gauge anchor o least → IsGreatestRate (IsAllowedStep t) t.gauge anchor o greatest → least ≤ℤ greatest
-    → Ends t.gauge.rate_decimals least greatest
-one_ends t band anchor o least greatest few usable is_band p q h =
-    let a = least_allowed (IsAllowedStep t) t.gauge anchor o o least greatest p q h in
-    let b = greatest_allowed (IsAllowedStep t) t.gauge anchor o o least greatest p q h in
-    let low = (in_band t band is_band least a).low in
-    let high = (in_band t band is_band greatest b).high in
-    let p = usable.positive in
-    record {
-      positive = omega (arith, ints);
-      small = slow_band t.gauge.rate_decimals greatest few (let s = usable.slow in omega (arith, ints));
+      small = slow_band fit.settings.rate_decimals greatest given.ranges.rate_decimals_to (let s = given.usable.slow in omega (arith, ints));
       slow = b.most;
     }

@@ -1,18 +1,21 @@
 -- What is built over the first observations of a list, and why a list of observations stops it.
-use Rattle.std.specs.Prelude.{◌≡◌, ℕ, ◌<◌, Bool, true, false, ◌||◌, nat_lt, List, take, Some, slice_get}
-use Rattle.sk_clock.specs.Row.{RowView}
+use Rattle.std.specs.Prelude.{◌≡◌, ℕ, ◌<◌, Bool, true, false, ◌||◌, nat_lt, List, take, Some, slice_get, length, [], ◌∷◌, ◌++◌}
+use Rattle.sk_publishing.specs.Row.{RowView}
 use Rattle.sk_clock.specs.Clock.{ClockView, total, partition_at}
-use Rattle.sk_triples.specs.Terms.{Sight, Terms, TripleView, sights, seam as seam_of}
-use Rattle.sk_triples.specs.Rates.{BandView, IsBand}
-use Rattle.sk_triples.specs.Chain.{IsAllowedStep}
+use Rattle.sk_publishing.specs.Terms.{Sight, Terms, sights, seam as seam_of}
+use Rattle.sk_line.specs.Triple.{TripleView}
+use Rattle.sk_publishing.specs.Rates.{BandView, IsBand}
+use Rattle.sk_publishing.specs.Chain.{IsAllowedStep}
 use Rattle.sk_triples.specs.Kernel.{TriplesView, IsTriple}
-use Rattle.sk_triples.specs.Input.{Begins}
-use Rattle.sk_triples.specs.Kept.{Sorts, StopsAtNoRate, StopsAtTimeFall}
+use Rattle.sk_publishing.specs.Input.{Begins}
+use Rattle.sk_publishing.specs.Kept.{Sorts, StopsAtNoRate, StopsAtTimeFall}
 use Rattle.sk_fit.specs.declared.fault.FitFault.{FitFault}
 use Rattle.sk_fit.specs.declared.fault.FitFault.TheVariants.{NoRate, TimeFalls, NoMemory}
 use Rattle.sk_fit.specs.declared.settings.Settings.{Settings}
 use Rattle.sk_fit.specs.Given.{IsUsableBand, terms_of}
 use Rattle.sk_fit.specs.Causes.{IsNumberOf, input}
+use Rattle.sk_fit.specs.declared.chain.Chain.{Chain}
+use Rattle.sk_fit.specs.Context.{FitView, terms}
 use Rattle.sk_fit.specs.State.{FittingView, IsFitting, IsSmallClock}
 
 -- a publication of the first n observations
@@ -21,6 +24,12 @@ pub record IsFitted (t : Terms) (rows : List RowView) (n : ℕ) (f : FittingView
   pub dropped : List Sight
   pub sorts : Sorts t (take n (sights rows)) kept dropped
   pub fitting : IsFitting t (sights rows) n f kept dropped
+
+-- the chain is that of a publication of all observations
+pub record IsChainOf (fit : FitView) (first_new : ℕ) (chain : Chain) : Type 0 where
+  pub built : FittingView
+  pub fitted : IsFitted (terms fit) fit.rows (length fit.rows) built
+  pub finished : chain ≡ record { first_new = first_new; dropped = built.dropped; segments = built.closed ++ built.open_one ∷ [] }
 
 -- the observation that stops a publication, for this reason; or memory runs out
 abbrev pub StopsAt : Terms → List RowView → FitFault → Type 0

@@ -4,15 +4,18 @@ use Rattle.std.specs.List.{AllByRecursion, list_any}
 use Rattle.sk_decimal.specs.declared.fixed.Fixed.{Fixed}
 use Rattle.sk_fit.specs.declared.settings.Line.{Line}
 use Rattle.sk_fit.specs.declared.chain.Segment.{Segment}
+use Rattle.sk_fit.specs.declared.open_segment.Running.{Running}
+use Rattle.sk_fit.specs.declared.ending.Beginning.{Beginning}
 use Rattle.sk_fit.specs.declared.fault.FitFault.{FitFault}
 use Rattle.sk_fit.specs.declared.fault.FitFault.TheVariants.{NoRate, TimeFalls, NoMemory}
 use Rattle.sk_fit.specs.declared.chain.End.{End}
 use Rattle.sk_fit.specs.declared.chain.End.TheVariants.{Last}
-use Rattle.sk_triples.specs.Terms.{Sight, Terms, TripleView, in_seconds}
-use Rattle.sk_triples.specs.Chain.{SegmentView, IsInPartition, left_at, rounded_up}
-use Rattle.sk_triples.specs.Kept.{SortsNext, is_new, HasNoRate, HasTimeFall}
+use Rattle.sk_publishing.specs.Terms.{Sight, Terms, in_seconds}
+use Rattle.sk_line.specs.Triple.{TripleView}
+use Rattle.sk_publishing.specs.Chain.{SegmentView, IsInPartition, left_at, rounded_up}
+use Rattle.sk_publishing.specs.Kept.{SortsNext, is_new, HasNoRate, HasTimeFall}
 use Rattle.sk_clock.specs.Clock.{ClockView, ticks_per, total}
-use Rattle.sk_triples.specs.Built.{Built}
+use Rattle.sk_publishing.specs.Built.{Built}
 use Rattle.sk_fit.specs.Given.{segment_view, IsRate, ArePlaced}
 
 -- ---- what arithmetic needs
@@ -33,12 +36,12 @@ pub record FittingView : Type 0 where
   pub closed : List Segment
   pub open_one : Segment
   -- where the line of the open segment is left
-  pub left : ℕ
+  pub leave_tick : ℕ
   -- the running interval of the open segment, and the places that set it
-  pub low : ℕ
-  pub high : ℕ
   pub least : ℤ
   pub greatest : ℤ
+  pub least_place : ℕ
+  pub greatest_place : ℕ
   pub dropped : List ℕ
 
 -- a place that the open segment covers too; an empty one begins there
@@ -48,21 +51,21 @@ first_from s place = if s.first == s.past then place else s.first
 abbrev pub gone_on : FittingView → ℕ → ℕ → Fixed 18 → FittingView
 gone_on f place tick rate = record f {
   open_one = record { anchor = f.open_one.anchor; rate = rate; first = first_from f.open_one place; past = place + 1; ended = Last };
-  left = tick;
+  leave_tick = tick;
 }
 
-abbrev pub bounded : FittingView → ℕ → ℕ → ℤ → ℤ → FittingView
-bounded f low high least greatest = record f { low = low; high = high; least = least; greatest = greatest }
+abbrev pub bounded : FittingView → Running → FittingView
+bounded f r = record f { least = r.bounds.least; greatest = r.bounds.greatest; least_place = r.least_place; greatest_place = r.greatest_place }
 
-abbrev pub begun_at : FittingView → End → Line → Fixed 18 → ℕ → ℕ → ℤ → ℤ → FittingView
-begun_at f ended anchor rate place tick least greatest = record f {
+abbrev pub begun_at : FittingView → End → Beginning → ℕ → ℕ → FittingView
+begun_at f ended b place tick = record f {
   closed = f.closed ++ record f.open_one { ended = ended } ∷ [];
-  open_one = record { anchor = anchor; rate = rate; first = place; past = place + 1; ended = Last };
-  left = tick;
-  low = place;
-  high = place;
-  least = least;
-  greatest = greatest;
+  open_one = record { anchor = b.anchor; rate = b.rate; first = place; past = place + 1; ended = Last };
+  leave_tick = tick;
+  least = b.bounds.least;
+  greatest = b.bounds.greatest;
+  least_place = place;
+  greatest_place = place;
 }
 
 abbrev pub dropped_at : FittingView → ℕ → FittingView
@@ -79,11 +82,11 @@ fresh old left place = record {
     past = place;
     ended = Last;
   };
-  left = left;
-  low = place;
-  high = place;
+  leave_tick = left;
   least = pos 0;
   greatest = pos 0;
+  least_place = place;
+  greatest_place = place;
   dropped = [];
 }
 
@@ -110,16 +113,16 @@ pub record HasPlaces (all : List Sight) (n : ℕ) (f : FittingView) (dropped : L
 
 -- The open segment: where it is left, and that it is left behind by all that is to come.
 pub record IsOpen (t : Terms) (all : List Sight) (n : ℕ) (f : FittingView) : Type 0 where
-  pub left : f.left ≡ left_at t (open_of all f)
-  pub covered_to : AllByRecursion (λ x. x.tick ≤ f.left) (open_of all f).covered
-  pub from_anchor : f.open_one.anchor.ticks ≤ f.left
-  pub first_from_anchor : (f.closed ≡ []) → f.open_one.anchor.ticks < f.left
+  pub left : f.leave_tick ≡ left_at t (open_of all f)
+  pub covered_to : AllByRecursion (λ x. x.tick ≤ f.leave_tick) (open_of all f).covered
+  pub from_anchor : f.open_one.anchor.ticks ≤ f.leave_tick
+  pub first_from_anchor : (f.closed ≡ []) → f.open_one.anchor.ticks < f.leave_tick
   pub whole : 0 < length f.closed → (units : ℤ) × (f.open_one.anchor.time.units ≡ in_seconds t.gauge units)
-  pub ahead : AllByRecursion (λ x. n ≤ x.place → (f.open_one.anchor.ticks < x.tick) × (IsInPartition t (open_of all f) x → f.left < x.tick)) all
+  pub ahead : AllByRecursion (λ x. n ≤ x.place → (f.open_one.anchor.ticks < x.tick) × (IsInPartition t (open_of all f) x → f.leave_tick < x.tick)) all
   -- what arithmetic needs
   pub line : HoldsLine t.gauge.per_count f.open_one.anchor
   pub rate : IsRate f.open_one.rate.units
-  pub due_from : HoldsLine t.gauge.per_count (record { ticks = f.left; time = record { units = rounded_up t (open_of all f) f.left } })
+  pub due_from : HoldsLine t.gauge.per_count (record { ticks = f.leave_tick; time = record { units = rounded_up t (open_of all f) f.leave_tick } })
 
 -- how many observations are old
 abbrev pub old_number : Terms → List Sight → ℕ
@@ -128,8 +131,8 @@ old_number t all = count_by (λ o. not (is_new t o)) all
 pub record IsFitting (t : Terms) (all : List Sight) (n : ℕ) (f : FittingView) (kept dropped : List Sight) : Type 0 where
   pub low : Sight
   pub high : Sight
-  pub low_place : f.low ≡ low.place
-  pub high_place : f.high ≡ high.place
+  pub low_place : f.least_place ≡ low.place
+  pub high_place : f.greatest_place ≡ high.place
   pub built : Built t kept (front_of all f) (open_of all f) low high f.least f.greatest
   pub room : length dropped ≤ t.reject
   pub places : HasPlaces all n f dropped
@@ -163,17 +166,6 @@ IsBuilt t all n f = (kept : List Sight) × (dropped : List Sight) × IsFitting t
 abbrev pub Moves : Terms → List Sight → ℕ → Sight → FittingView → FittingView → Type 0
 Moves t all n o f f' = (kept dropped : List Sight) → IsFitting t all n f kept dropped
     → (kept' : List Sight) × (dropped' : List Sight) × SortsNext t kept dropped o kept' dropped' × IsFitting t all (n + 1) f' kept' dropped'
-
--- the next observation is in its place, new, and in the ranges of observations
-pub record IsNextOne (t : Terms) (clock : ClockView) (all : List Sight) (n : ℕ) (o : Sight) : Type 0 where
-  pub clocked : IsSmallClock clock
-  pub at : IsAt all n o
-  pub rises : Rises all n o
-  pub new : is_new t o ≡ true
-  pub not_past : o.tick ≤ total clock
-  pub from : neg_ℤ (pos (9 * 10 ^ 21)) ≤ℤ o.time
-  pub to : o.time ≤ℤ pos (9 * 10 ^ 21)
-  pub short : n + 1 < 2 ^ 64
 
 -- why one observation more, with this record number, stops what is built
 abbrev pub StopsBy : Terms → List Sight → ℕ → Sight → FittingView → ℕ → FitFault → Type 0

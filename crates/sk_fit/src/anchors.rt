@@ -2,8 +2,8 @@
 
 ghost use Rattle.std.specs.Prelude.{◌≡◌, ◌-◌, ◌+◌, ◌*◌, ◌^◌, ◌<◌, ◌≤◌, ℤ, pos, neg_ℤ, ◌+ℤ◌, ◌*ℤ◌, ◌≤ℤ◌, ◌<ℤ◌};
 ghost use Rattle.sk_decimal.specs.Quotient.{floor_quotient, ceiling_quotient};
-ghost use Rattle.sk_triples.specs.Line.{line_over};
-ghost use Rattle.sk_triples.specs.Rates.{on_grid as grid_rate};
+ghost use Rattle.sk_line.specs.Line.{line_over};
+ghost use Rattle.sk_publishing.specs.Rates.{on_grid as grid_rate};
 ghost use Rattle.sk_fit.specs.Given.{anchor_of, IsRate};
 ghost use Rattle.sk_fit.specs.State.{HoldsLine};
 

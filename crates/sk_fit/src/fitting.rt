@@ -1,206 +1,212 @@
-ghost use Rattle.std.specs.Prelude.{All, ◌≡◌, ◌⊎◌, ◌≢◌, ◌↔◌, ◌<◌, ◌≤◌, ◌^◌, ◌+◌, ◌-◌, ◌∷◌, [], IfOk, IfErr, IsOk, Err, ℕ, List, IsTrue, take, length, Some, slice_get, nat_lt, ◌||◌, true, false, max, unwrap_or, ◌++◌};
-ghost use Rattle.std.specs.List.{AllByRecursion};
-ghost use Rattle.sk_clock.specs.Clock.{total, partition_at, IsClock};
-ghost use Rattle.sk_clock.specs.Row.{AreRows, RowView};
-ghost use Rattle.sk_triples.specs.Terms.{sights};
-ghost use Rattle.sk_triples.specs.Rates.{IsBand};
-ghost use Rattle.sk_triples.specs.Chain.{IsAllowedStep};
-ghost use Rattle.sk_triples.specs.Kept.{is_new as is_new_in};
-ghost use Rattle.sk_triples.specs.Kernel.{AreOf, AreTriples};
-ghost use Rattle.sk_fit.specs.Given.{AreSettings, IsUsableBand, terms_of, band_view, ArePlaced, new_triples_of};
-ghost use Rattle.sk_fit.specs.State.{IsSmallClock, fresh};
-ghost use Rattle.sk_fit.specs.Fitted.{IsStart, IsFitted, StopsAt, is_new_tick, AreOldTicks, IsNewTick};
-ghost use Rattle.sk_fit.specs.Causes.{Gives, Refuses, input};
-ghost use Rattle.sk_fit.specs.declared.fault.FitFault.{FitFault as Fault};
-ghost use Rattle.sk_fit.specs.declared.chain.Chain.{Chain as Published};
+//! What is built of a publication so far, and what an observation more does to it.
 
-use crate::chain::Chain;
+ghost use Rattle.std.specs.Prelude.{◌≡◌, ◌+◌, ◌++◌, ◌∷◌, ◌^◌, IfOk, ◌<◌, OnOk, OnErr, IfErr, true, false, Ok, ◌≢◌, [], length, slice_get, Some};
+ghost use Rattle.sk_publishing.specs.Row.{RowView};
+ghost use Rattle.sk_publishing.specs.Kept.{is_new};
+ghost use Rattle.sk_fit.specs.Given.{sight_at};
+ghost use Rattle.sk_fit.specs.State.{fresh, dropped_at};
+ghost use Rattle.sk_fit.specs.Fitted.{IsFitted, StopsAt};
+ghost use Rattle.sk_fit.specs.Context.{terms, IsNext, IsBuiltTo, Grows, IsHere, LacksRate, LetsTimeFall, StopsFit};
+
+use crate::chain::{Chain, End, Segment};
+use crate::context::Fit;
 use crate::fault::FitFault;
-use crate::partitions::{are_together, partition_of};
-use crate::settings::{Band, Line, Settings};
-use crate::state::Fitting;
-use sk_clock::Clock;
+use crate::settings::Line;
+use crate::start::Start;
+use sk_checks::NoMemory;
+use sk_grammar::List;
 use sk_obs::Observation;
-use sk_triples::{Triple, Triples};
 use std::alloc::Global;
+use std::marker::Model;
 
-/// What new triples go on from.
-#[derive(Clone, Copy)]
-struct Start {
-    /// The old last triple.
-    old: Triple,
-    band: Band,
-    /// The tick after which observations are new.
-    seam: u64,
+/// What is built of a publication so far: closed segments, the open one, and the places that are dropped.
+#[derive(Drop)]
+pub struct Fitting {
+    pub(crate) closed: Vec<Segment>,
+    pub(crate) open_one: Segment,
+    /// Where the line of the open segment is left.
+    pub(crate) leave_tick: u64,
+    /// The running interval of the open segment, and the places that set it.
+    pub(crate) least: i128,
+    pub(crate) greatest: i128,
+    pub(crate) least_place: usize,
+    pub(crate) greatest_place: usize,
+    dropped: Vec<usize>,
 }
 
-/// The hold is before the old last triple, above the total, or in another partition.
-fn is_bad_hold(clock: &Clock, hold: u64, last: u64) -> bool
-    requires { last ≤ total clock.now }
-    ensures bad { IsTrue result ↔ ((hold < last) ⊎ (total clock.now < hold) ⊎ (partition_at clock.now hold ≢ partition_at clock.now last)) }
-    ensures clock { IsClock clock.now }
-{
-    clock.total() < hold || hold < last || !are_together(clock, hold, last)
+impl Model for Fitting {
+    ghost use Rattle.sk_fit.specs.State.{FittingView};
+
+    ghost Value = { FittingView };
+
+    ghost view = { λ f. record {
+      closed = f.closed.items;
+      open_one = f.open_one;
+      leave_tick = f.leave_tick;
+      least = f.least;
+      greatest = f.greatest;
+      least_place = f.least_place;
+      greatest_place = f.greatest_place;
+      dropped = f.dropped.items;
+    } };
 }
 
-/// What is asked before the first new triple, and what new triples go on from.
-fn start_of(triples: &Triples, clock: &Clock, settings: &Settings) -> Result<Start, FitFault>
-    requires triples { AreOf clock.now triples.now }
-    requires settings { AreSettings settings.now }
-    ensures start { IfOk result (λ s. IsStart triples.now clock.now settings.now s.old (band_view s.band) s.seam) }
-    ensures fault { IfErr result (λ f. (rows : List RowView) → Refuses (input triples.now clock.now rows settings.now) rows f) }
-{
-    let list = triples.list();
-    let old = list[list.len() - 1];
-    let hold = settings.hold.unwrap_or(old.ticks);
-    if is_bad_hold(clock, hold, old.ticks) {
-        return Err(FitFault::BadHold);
-    }
-    if let Some(fall) = triples.first_fall_over(settings.slip) {
-        return Err(FitFault::OldFalls(fall));
-    }
-    let Some(band) = settings.band_of(old.rate) else {
-        return Err(FitFault::BandEmpty);
-    };
-    let seam = hold.max(old.ticks + 1);
-    Ok(Start { old, band, seam })
-}
-
-/// The tick is in a later partition than the old last triple, or after the seam.
-fn is_new(clock: &Clock, last: u64, seam: u64, tick: u64) -> bool
-    requires last { last ≤ total clock.now }
-    requires tick { tick ≤ total clock.now }
-    ensures { result ≡ is_new_tick clock.now last seam tick }
-{
-    partition_of(clock, last) < partition_of(clock, tick) || seam < tick
-}
-
-/// The place of the first new observation, or past the last one.
-fn first_new_of(clock: &Clock, start: &Start, observations: &[Observation]) -> usize
-    requires last { start.now.old.anchor.ticks ≤ total clock.now }
-    requires ticks { All (λ row. row.tick ≤ total clock.now) observations.now }
-    ensures within { result ≤ length observations.now }
-    ensures olds { AreOldTicks clock.now start.now.old.anchor.ticks start.now.seam observations.now result }
-    ensures new { IsNewTick clock.now start.now.old.anchor.ticks start.now.seam observations.now result }
-{
-    for (place, obs) in observations.iter().enumerate() {
-        if is_new(clock, start.old.ticks, start.seam, obs.tick) {
-            return place;
+impl Fitting {
+    /// Nothing is built yet: the line of the old last triple goes on to the seam, and observations come from a place on.
+    pub fn new(alloc: Global, start: Start, place: usize) -> Fitting
+        ensures { result ≡ fresh start.old start.seam place }
+    {
+        let old = start.old;
+        Fitting {
+            closed: Vec::new(alloc),
+            open_one: Segment {
+                anchor: Line {
+                    ticks: old.ticks,
+                    time: old.time,
+                },
+                rate: old.rate,
+                first: place,
+                past: place,
+                ended: End::Last,
+            },
+            leave_tick: start.seam,
+            least: 0,
+            greatest: 0,
+            least_place: place,
+            greatest_place: place,
+            dropped: Vec::new(alloc),
         }
     }
-    observations.len()
-}
 
-/// What is built over all observations; those before `first_new` are old.
-fn fitted(
-    alloc: Global,
-    clock: &Clock,
-    settings: &Settings,
-    start: &Start,
-    observations: &[Observation],
-    first_new: usize,
-) -> Result<Fitting, FitFault>
-    requires small { IsSmallClock clock.now }
-    requires settings { AreSettings settings.now }
-    requires rows { AreRows (total clock.now) observations.now }
-    requires band { IsUsableBand settings.now.rate_decimals (band_view start.now.band) }
-    requires allowed { IsBand (IsAllowedStep (terms_of settings.now clock.now start.now.old)) (band_view start.now.band) }
-    requires new { AllByRecursion (λ x. first_new ≤ x.place → is_new_in (terms_of settings.now clock.now start.now.old) x ≡ true) (sights observations.now) }
-    requires within { first_new ≤ length observations.now }
-    requires begun { IsFitted (terms_of settings.now clock.now start.now.old) observations.now first_new (fresh start.now.old start.now.seam first_new) }
-    ensures ok { IfOk result (IsFitted (terms_of settings.now clock.now start.now.old) observations.now (length observations.now)) }
-    ensures fault { IfErr result (StopsAt (terms_of settings.now clock.now start.now.old) observations.now) }
-{
-    let mut fitting = Fitting::new(alloc, start.old, start.seam, first_new);
-    for place in first_new..observations.len() {
-        let obs = &observations[place];
-        match fitting.next(
-            clock,
-            settings,
-            start.band,
-            &start.old,
-            observations,
-            place,
-            obs,
-        ) {
-            Ok(()) => (),
-            Err(fault) => return Err(fault),
+    /// The chain of what is built.
+    pub fn into_chain(self, first_new: usize) -> Result<Chain, NoMemory>
+        ensures { IfOk result (λ c. c ≡ record { first_new = first_new; dropped = self.dropped; segments = self.closed ++ self.open_one ∷ [] }) }
+    {
+        let mut segments = self.closed;
+        segments.push(self.open_one)?;
+        Ok(Chain {
+            first_new,
+            dropped: List::from_vec(self.dropped),
+            segments: List::from_vec(segments),
+        })
+    }
+
+    /// One observation more: it is covered or dropped, or it stops the fit.
+    pub fn take(&mut self, fit: &Fit, place: usize) -> Result<(), FitFault>
+        requires within { place < length fit.now.rows }
+        requires new { (row : RowView) → slice_get fit.now.rows place ≡ Some row → is_new (terms fit.now) (sight_at place row) ≡ true }
+        requires fitted { IsFitted (terms fit.now) fit.now.rows place self.old }
+        ensures ok { OnOk result (IsFitted (terms fit.now) fit.now.rows (place + 1) self.new) }
+        ensures fault { IfErr result (StopsAt (terms fit.now) fit.now.rows) }
+    {
+        let obs = fit.at(place);
+        self.take_next(fit, place, obs)?;
+        Ok(())
+    }
+
+    /// The next observation is covered or dropped, or it stops the fit.
+    fn take_next(&mut self, fit: &Fit, place: usize, obs: &Observation) -> Result<(), FitFault>
+        requires built { IsBuiltTo fit.now place self.old }
+        requires next { IsNext fit.now place obs.now }
+        ensures moved { OnOk result (Grows fit.now place obs.now self.old self.new) }
+        ensures stopped { IfErr result (StopsFit fit.now place obs.now self.old) }
+    {
+        if fit.are_together(obs, self.open_one.anchor.ticks) {
+            return self.take_here(fit, place, obs);
+        }
+        self.take_apart(fit, place, obs)
+    }
+
+    /// The next observation, in the open segment's partition: it is covered or dropped.
+    fn take_here(&mut self, fit: &Fit, place: usize, obs: &Observation) -> Result<(), FitFault>
+        requires built { IsBuiltTo fit.now place self.old }
+        requires next { IsNext fit.now place obs.now }
+        requires here { IsHere fit.now place obs.now self.old }
+        ensures moved { OnOk result (Grows fit.now place obs.now self.old self.new) }
+        ensures stopped { IfErr result (StopsFit fit.now place obs.now self.old) }
+    {
+        let Ok(went) = self.cover_here(fit, place, obs) else {
+            return Err(FitFault::NoMemory);
+        };
+        if went {
+            return Ok(());
+        }
+        self.drop_or_stop(fit, place, obs)
+    }
+
+    /// The next observation, in another partition: it is covered.
+    fn take_apart(&mut self, fit: &Fit, place: usize, obs: &Observation) -> Result<(), FitFault>
+        requires built { IsBuiltTo fit.now place self.old }
+        requires next { IsNext fit.now place obs.now }
+        requires away { ¬ IsHere fit.now place obs.now self.old }
+        ensures moved { OnOk result (Grows fit.now place obs.now self.old self.new) }
+        ensures stopped { IfErr result (StopsFit fit.now place obs.now self.old) }
+    {
+        let Ok(went) = self.cover_apart(fit, place, obs) else {
+            return Err(FitFault::NoMemory);
+        };
+        if went {
+            return Ok(());
+        }
+        Err(FitFault::TimeFalls(obs.number))
+    }
+
+    /// The open segment or a further one covers an observation of its partition; `false` where no allowed rate meets it.
+    fn cover_here(&mut self, fit: &Fit, place: usize, obs: &Observation) -> Result<bool, NoMemory>
+        requires built { IsBuiltTo fit.now place self.old }
+        requires next { IsNext fit.now place obs.now }
+        requires here { IsHere fit.now place obs.now self.old }
+        ensures began { result ≡ Ok true → Grows fit.now place obs.now self.old self.new }
+        ensures stays { result ≢ Ok true → self.new ≡ self.old }
+        ensures none { result ≡ Ok false → LacksRate fit.now place obs.now self.old }
+    {
+        match self.goes_on(fit, place, obs) {
+            None => Ok(true),
+            Some(ended) => self.leave_here(fit, place, obs, ended),
         }
     }
-    Ok(fitting)
-}
 
-/// The old triples, and one for each segment but the first, are more than a kernel may have.
-fn are_too_many(old: usize, segments: usize) -> bool
-    requires old { old ≤ 50000 }
-    requires some { 0 < segments }
-    ensures { IsTrue result ↔ (50000 < old + (segments - 1)) }
-{
-    segments - 1 > 50_000 - old
-}
-
-/// The publication of the new observations, or why there is none.
-fn publication(
-    alloc: Global,
-    triples: &Triples,
-    clock: &Clock,
-    observations: &[Observation],
-    settings: &Settings,
-) -> Result<Chain, FitFault>
-    requires triples { AreOf clock.now triples.now }
-    requires observations { AreRows (total clock.now) observations.now }
-    requires settings { AreSettings settings.now }
-    ensures ok { IfOk result (Gives (input triples.now clock.now observations.now settings.now)) }
-    ensures placed { IfOk result (λ c. ArePlaced c.first_new (sights observations.now) c.dropped c.segments) }
-    ensures triples { IfOk result (λ c. AreTriples triples.now.total (triples.now.triples ++ new_triples_of c)) }
-    ensures fault { IfErr result (λ f. (f ≡ FitFault.NoMemory) ⊎ Refuses (input triples.now clock.now observations.now settings.now) observations.now f) }
-{
-    let start = match start_of(triples, clock, settings) {
-        Ok(start) => start,
-        Err(fault) => return Err(fault),
-    };
-    let first_new = first_new_of(clock, &start, observations);
-    let fitting = match fitted(alloc, clock, settings, &start, observations, first_new) {
-        Ok(fitting) => fitting,
-        Err(fault) => return Err(fault),
-    };
-    let Ok(chain) = fitting.into_chain(first_new) else {
-        return Err(FitFault::NoMemory);
-    };
-    if are_too_many(triples.list().len(), chain.segments.as_slice().len()) {
-        return Err(FitFault::TooMany);
+    /// A segment of another partition covers the observation; `false` where time would fall.
+    fn cover_apart(&mut self, fit: &Fit, place: usize, obs: &Observation) -> Result<bool, NoMemory>
+        requires built { IsBuiltTo fit.now place self.old }
+        requires next { IsNext fit.now place obs.now }
+        requires away { ¬ IsHere fit.now place obs.now self.old }
+        ensures began { result ≡ Ok true → Grows fit.now place obs.now self.old self.new }
+        ensures stays { result ≢ Ok true → self.new ≡ self.old }
+        ensures falls { result ≡ Ok false → LetsTimeFall fit.now place obs.now self.old }
+    {
+        if fit.is_late(self.open_one, obs) {
+            return Ok(false);
+        }
+        match self.leave_apart(fit, place, obs) {
+            Ok(()) => Ok(true),
+            Err(fault) => Err(fault),
+        }
     }
-    Ok(chain)
-}
 
-/// The publication of the new observations.
-pub fn fit(
-    alloc: Global,
-    triples: &Triples,
-    clock: &Clock,
-    observations: &[Observation],
-    settings: &Settings,
-) -> Result<Chain, FitFault>
-    requires triples { AreOf clock.now triples.now }
-    requires observations { AreRows (total clock.now) observations.now }
-    requires settings { AreSettings settings.now }
-    // Only a publication is answered.
-    ensures ok { IfOk result (Gives (input triples.now clock.now observations.now settings.now)) }
-    // Its places are those of what is covered, and old and new triples are those of a kernel.
-    ensures placed { IfOk result (λ c. ArePlaced c.first_new (sights observations.now) c.dropped c.segments) }
-    ensures triples { IfOk result (λ c. AreTriples triples.now.total (triples.now.triples ++ new_triples_of c)) }
-    // What is refused has this cause.
-    ensures fault { IfErr result (λ f. (f ≡ FitFault.NoMemory) ⊎ Refuses (input triples.now clock.now observations.now settings.now) observations.now f) }
-    // Where there is a publication it is answered, unless memory runs out.
-    ensures published { (chain : Published) → Gives (input triples.now clock.now observations.now settings.now) chain
-        → IsOk result ⊎ (result ≡ Err FitFault.NoMemory) }
-    // Where there is a cause to refuse it is answered, unless memory runs out.
-    ensures refused { (fault : Fault)
-        → Refuses (input triples.now clock.now observations.now settings.now) observations.now fault
-        → (result ≡ Err fault) ⊎ (result ≡ Err FitFault.NoMemory) }
-{
-    match publication(alloc, triples, clock, observations, settings) {
-        Ok(chain) => Ok(chain),
-        Err(fault) => Err(fault),
+    /// The observation is dropped, where one more may be.
+    fn drop_or_stop(&mut self, fit: &Fit, place: usize, obs: &Observation) -> Result<(), FitFault>
+        requires built { IsBuiltTo fit.now place self.old }
+        requires next { IsNext fit.now place obs.now }
+        requires none { LacksRate fit.now place obs.now self.old }
+        ensures moved { OnOk result (Grows fit.now place obs.now self.old self.new) }
+        ensures stopped { IfErr result (StopsFit fit.now place obs.now self.old) }
+    {
+        if fit.is_full(self.dropped.len()) {
+            return Err(FitFault::NoRate(obs.number));
+        }
+        match self.drop_place(place) {
+            Ok(()) => Ok(()),
+            Err(_) => Err(FitFault::NoMemory),
+        }
+    }
+
+    /// A place is dropped.
+    fn drop_place(&mut self, place: usize) -> Result<(), NoMemory>
+        ensures ok { OnOk result (self.new ≡ dropped_at self.old place) }
+        ensures err { OnErr result (self.new ≡ self.old) }
+    {
+        self.dropped.push(place)?;
+        Ok(())
     }
 }

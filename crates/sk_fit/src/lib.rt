@@ -4,17 +4,21 @@
 mod anchors;
 mod bands;
 mod chain;
+mod context;
+mod ending;
 mod fault;
 mod fitting;
 mod gains;
+mod open_segment;
 mod partitions;
 mod products;
+mod publication;
 mod rates;
 mod settings;
-mod state;
+mod start;
 
 pub use chain::{Chain, End, Segment};
 pub use fault::FitFault;
-pub use fitting::fit;
+pub use publication::fit;
 pub use rates::{bounds, meets, run_rates};
 pub use settings::{Band, Bounds, Line, Settings};

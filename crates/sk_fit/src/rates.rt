@@ -1,8 +1,8 @@
 ghost use Rattle.std.specs.Prelude.{◌≡◌, ◌≤◌, ◌↔◌, ℤ, pos, ◌≤ℤ◌, ◌<ℤ◌, ◌*◌, ◌^◌, IsTrue, IfSome, IfNone, List, All};
 ghost use Rattle.sk_fit.specs.Given.{AreSettings, gauge_of, anchor_of, sight_at, band_view, CanMeet, IsRate, IsUsableBand};
-ghost use Rattle.sk_triples.specs.Line.{Meets};
-ghost use Rattle.sk_triples.specs.Rates.{InBand, IsLeast, IsGreatest, IsLeastRate, IsGreatestRate, MeetsAll};
-ghost use Rattle.sk_triples.specs.Terms.{sights};
+ghost use Rattle.sk_publishing.specs.Meets.{Meets};
+ghost use Rattle.sk_publishing.specs.Rates.{InBand, IsLeast, IsGreatest, IsLeastRate, IsGreatestRate, MeetsAll};
+ghost use Rattle.sk_publishing.specs.Terms.{sights};
 
 use crate::bands::{greater, lesser};
 use crate::gains::{greatest_gain, is_within, least_gain, room, wanted};

@@ -2,7 +2,7 @@
 
 ghost use Rattle.std.specs.Prelude.{◌^◌, ◌<◌, length, IsTrue, IfOk};
 ghost use Rattle.sk_clock.specs.Clock.{total};
-ghost use Rattle.sk_clock.specs.Row.{AreRows};
+ghost use Rattle.sk_publishing.specs.Row.{AreRows};
 ghost use Rattle.sk_grammar.specs.Variables.{items_of};
 ghost use Rattle.sk_fit.specs.Given.{AreSettings};
 

@@ -5,8 +5,8 @@ use Rattle.std.proofs.lemmas.Bool.{cases_lt}
 use Rattle.std.proofs.lemmas.Option.{same_Some, slice_get_within, slice_get-get_or}
 use Rattle.std.specs.Prelude.{ℤ, pos, ◌-ℤ◌, ◌*ℤ◌, ◌≤ℤ◌, ◌<ℤ◌, slice_get}
 use Rattle.sk_decimal.proofs.Signed.{mul-le_right}
-use Rattle.sk_triples.specs.Terms.{TripleView}
-use Rattle.sk_triples.specs.Line.{line_over, fall_over, FallsOver}
+use Rattle.sk_line.specs.Triple.{TripleView}
+use Rattle.sk_line.specs.Line.{line_over, fall_over, FallsOver}
 use Rattle.sk_triples.specs.Kernel.{AreTriples, Rise}
 use Rattle.sk_inverse.specs.Inverse.{ExactTickLaw}
 use Rattle.sk_inverse.proofs.Lines.{line_up, line_from}

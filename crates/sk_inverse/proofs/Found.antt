@@ -4,8 +4,8 @@ use Rattle.std.proofs.lemmas.Int.{ints}
 use Rattle.std.proofs.lemmas.Bool.{cases_lt, leb-false}
 use Rattle.std.proofs.lemmas.Option.{none-some, same_Some, some_pair_parts, slice_get_within, slice_get_read, get_or_from_slice_get}
 use Rattle.std.specs.Prelude.{ℤ, pos, ◌-ℤ◌, ◌*ℤ◌, ◌≤ℤ◌, ◌<ℤ◌, slice_get, false}
-use Rattle.sk_triples.specs.Terms.{TripleView}
-use Rattle.sk_triples.specs.Line.{line_over, IsTimeAt}
+use Rattle.sk_line.specs.Triple.{TripleView}
+use Rattle.sk_line.specs.Line.{line_over, IsTimeAt}
 use Rattle.sk_triples.specs.Kernel.{TriplesView, IsTriple, IsCovering, AreTriples, AreKept, Rise}
 use Rattle.sk_triples.proofs.Covering.{has_begun, IsPoint, point_of, covers_last, covers_none, covers, covered, ticks_rise, all_at}
 use Rattle.sk_triples.proofs.Falls.{join_rises}

@@ -4,8 +4,8 @@ use Rattle.std.proofs.lemmas.Int.{ints}
 use Rattle.std.proofs.Math.Nat.{mul-le-mul_right}
 use Rattle.std.specs.Prelude.{ℤ, pos, negsuc, ◌+ℤ◌, ◌-ℤ◌, ◌*ℤ◌, ◌≤ℤ◌, ◌<ℤ◌}
 use Rattle.sk_decimal.proofs.Signed.{sub-mul}
-use Rattle.sk_triples.specs.Terms.{TripleView}
-use Rattle.sk_triples.specs.Line.{line_over}
+use Rattle.sk_line.specs.Triple.{TripleView}
+use Rattle.sk_line.specs.Line.{line_over}
 
 pub gain_up : (rate : ℤ) (a b : ℕ) → pos 0 <ℤ rate → a < b → (rate *ℤ pos a) <ℤ (rate *ℤ pos b)
 gain_up (pos zero) a b p q = absurd (omega (arith, ints, p))

@@ -4,7 +4,7 @@ use Rattle.std.proofs.lemmas.Int.{ints}
 use Rattle.std.specs.Prelude.{ℤ, pos, negsuc, nat_abs, ◌+ℤ◌, ◌*ℤ◌, ◌≤ℤ◌, ◌<ℤ◌}
 use Rattle.sk_decimal.specs.Fixed.{IsFloor}
 use Rattle.sk_decimal.proofs.Signed.{mul-le_right}
-use Rattle.sk_triples.specs.Terms.{TripleView}
+use Rattle.sk_line.specs.Triple.{TripleView}
 use Rattle.sk_triples.specs.Kernel.{IsTriple}
 use Rattle.sk_inverse.specs.Search.{IsReached}
 use Rattle.sk_inverse.proofs.Lines.{gain_level}

@@ -5,7 +5,7 @@ use Rattle.std.proofs.lemmas.Float.{T_from_true}
 use Rattle.std.specs.Prelude.{Bool, ℤ, ◌≤ℤ◌, ◌<ℤ◌, int_le}
 use Rattle.std.specs.Int.Signed.{le_z_yes}
 use Rattle.std.specs.List.Sorted.{IsPartitionedBy, IsPartitionPoint}
-use Rattle.sk_triples.specs.Terms.{TripleView}
+use Rattle.sk_line.specs.Triple.{TripleView}
 use Rattle.sk_triples.specs.Kernel.{Rise}
 use Rattle.sk_triples.proofs.Covering.{rise_tail, times_behind}
 use Rattle.sk_inverse.specs.Search.{HaveBegun}

@@ -69,6 +69,8 @@ fn triples_are_taken_or_refused_for_their_first_fault(rt: HostRuntime) -> Result
         ("SCLK01_COEFFICIENTS_99 = 0", "NotTriples"),
         ("SCLK01_COEFFICIENTS_99 = ( 0 0 1 1 )", "NotTriples"),
         ("SCLK01_COEFFICIENTS_99 = ( 0 0 @1 )", "NotTriples"),
+        ("SCLK01_COEFFICIENTS_99 = ( @1 0 1 )", "NotTriples"),
+        ("SCLK01_COEFFICIENTS_99 = ( 0 'x' 1 )", "NotTriples"),
         ("SCLK01_COEFFICIENTS_99 = ( '0' '0' '1' )", "NotTriples"),
         ("SCLK01_COEFFICIENTS_99 = ( 0 0 1 )", "taken"),
         ("SCLK01_COEFFICIENTS_99 += ( 0 0 1 )", "taken"),
@@ -123,6 +125,33 @@ fn triples_are_taken_or_refused_for_their_first_fault(rt: HostRuntime) -> Result
         ),
         ("SCLK01_COEFFICIENTS_99 = ( 0.5 2E10 0 )", "TickRange(1)"),
         ("SCLK01_COEFFICIENTS_99 = ( 0 2E10 0 )", "TimeRange(1)"),
+        // Dates are calendar times: their form is judged before their size, and both before the rate.
+        (
+            "SCLK01_COEFFICIENTS_99 = ( 0 @1990-01-01 1 256 1 1 )",
+            "taken",
+        ),
+        (
+            "SCLK01_COEFFICIENTS_99 = ( 0 1 1 256 @1-JAN-1990/00:00 1 )",
+            "OutOfOrder(2)",
+        ),
+        ("SCLK01_COEFFICIENTS_99 = ( 0 @x 0 )", "TimeForm(1)"),
+        ("SCLK01_COEFFICIENTS_99 = ( 1.5 @x 1 )", "TickRange(1)"),
+        (
+            "SCLK01_COEFFICIENTS_99 = ( 0 @1600-01-01 0 )",
+            "TimeRange(1)",
+        ),
+        (
+            "SCLK01_COEFFICIENTS_99 = ( 0 @2316-326T05:46:40 1 )",
+            "taken",
+        ),
+        (
+            "SCLK01_COEFFICIENTS_99 = ( 0 @2000-01-01 0 )",
+            "RateRange(1)",
+        ),
+        (
+            "SCLK01_COEFFICIENTS_99 = ( 0 @2000-01-01T12:00 1 256 @x 1 )",
+            "TimeForm(2)",
+        ),
     ];
     for (data, want) in table {
         let got = match read(&rt, PLAIN, data)? {
@@ -161,6 +190,12 @@ fn ticks_have_their_times(rt: HostRuntime) -> Result<(), Fail> {
             "SCLK01_COEFFICIENTS_99 = ( 256 -1 1 )",
             256,
             "Some(0) Ok(-256000000000000000000)",
+        ),
+        (
+            PLAIN,
+            "SCLK01_COEFFICIENTS_99 = ( 0 @19-JAN-2006-18:09:05.184000 1 )",
+            0,
+            "Some(0) Ok(48887333167104000000000000000)",
         ),
         // At a join the later triple covers the tick.
         (

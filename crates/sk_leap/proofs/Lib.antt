@@ -10,8 +10,10 @@ pub mod Turns
 pub mod LeapDays
 pub mod Pairs
 pub mod Tables
+pub mod KernelTables
 pub mod Rising
 pub mod Clocks
 pub mod Found
 pub mod Printing
 pub mod OneUtc
+pub mod OneTime

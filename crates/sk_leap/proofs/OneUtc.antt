@@ -17,7 +17,8 @@ one_day : (date : DateParts) (a b : ℤ) → IsDayOf date a → IsDayOf date b �
 one_day (Calendar year month date) a b h k = h.2 ∙ sym k.2
 one_day (Ordinal year place) a b h k = omega (arith, ints, h.2, k.2)
 
-same_utc : (a b : Utc) → a.day ≡ b.day → a.sod ≡ b.sod → a.sub ≡ b.sub → a ≡ b
+-- equal numbers make one UTC
+pub same_utc : (a b : Utc) → a.day ≡ b.day → a.sod ≡ b.sod → a.sub ≡ b.sub → a ≡ b
 same_utc a b day sod sub = λ i. record {
   day = day i;
   sod = sod i;

@@ -15,7 +15,7 @@ mod tdt;
 mod text;
 mod utc;
 
-pub use laws::{one_utc, times_rise};
+pub use laws::{kernel_gives_table, one_time, one_utc, times_rise};
 pub use table::{LeapFault, LeapName, LeapTable};
 pub use text::{print_utc, read_utc};
 pub use utc::{Utc, UtcFault, UtcTextFault};

@@ -5,7 +5,7 @@ use Rattle.std.specs.List.{AllZip, enumerate_from}
 use Rattle.sk_checks.specs.Checks.{FirstRefuses, NoneRefuses, each_after, ◌⇒◌}
 use Rattle.sk_checks.proofs.ChecksLemmas.{FirstRefuses-front, FirstRefuses-rest, NoneRefuses-append}
 use Rattle.sk_clock.specs.Clock.{ClockView}
-use Rattle.sk_clock.specs.Row.{RowView}
+use Rattle.sk_publishing.specs.Row.{RowView}
 use Rattle.sk_leap.specs.declared.pair.LeapPair.{LeapPair}
 use Rattle.sk_obs.specs.declared.fault.ObsFault.{ObsFault}
 use Rattle.sk_obs.specs.declared.fault.ObsFault.TheVariants.{OutOfOrder}

@@ -3,7 +3,7 @@ use Rattle.std.proofs.Common.{◌≡◌, ℕ, ◌*◌, ℤ, pos, List, refl, sym
 use Rattle.std.specs.Prelude.{◌-ℤ◌}
 use Rattle.sk_checks.specs.Checks.{FirstRefuses, NoneRefuses}
 use Rattle.sk_checks.proofs.ChecksLemmas.{FirstRefuses-front, FirstRefuses-rest, NoneRefuses-append}
-use Rattle.sk_clock.specs.Row.{IsObservedTime}
+use Rattle.sk_publishing.specs.Row.{IsObservedTime}
 use Rattle.sk_leap.specs.declared.pair.LeapPair.{LeapPair}
 use Rattle.sk_obs.specs.declared.fault.ObsFault.{ObsFault}
 use Rattle.sk_obs.specs.declared.fault.ObsFault.TheVariants.{BadDelay, TimeRange}

@@ -2,7 +2,7 @@
 use Rattle.std.proofs.Common.{◌≡◌, ℕ, ◌<◌, ◌≤◌, List, [], ◌∷◌, ◌++◌, Option, Some, None, MatchOption, All, refl, sym, subst, arith}
 use Rattle.std.proofs.lemmas.List.Elements.{All-nil, All-push, All-weaker}
 use Rattle.std.proofs.lemmas.List.Quantifiers.{all_pairs_push}
-use Rattle.sk_clock.specs.Row.{RowView, AreRows, IsObservedTime}
+use Rattle.sk_publishing.specs.Row.{RowView, AreRows, IsObservedTime}
 
 -- the tick of the last one, if there is one, is the greatest
 abbrev pub IsGreatest : Option ℕ → List RowView → Type 0

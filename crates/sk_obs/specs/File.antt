@@ -8,7 +8,7 @@ use Rattle.sk_clock.specs.ClockText.{SpellsDigits}
 use Rattle.sk_leap.specs.declared.pair.LeapPair.{LeapPair}
 use Rattle.sk_obs.specs.declared.fault.ObsFault.{ObsFault}
 use Rattle.sk_obs.specs.declared.fault.ObsFault.TheVariants.{Header, FieldCount, BadId, ClockRefused, BadDelay, TimeRange, OutOfOrder, TooMany}
-use Rattle.sk_clock.specs.Row.{RowView, IsObservedTime}
+use Rattle.sk_publishing.specs.Row.{RowView, IsObservedTime}
 use Rattle.sk_obs.specs.Observation.{IsId}
 use Rattle.sk_obs.specs.Words.{IsClockWord, word_checks, time_word, SaysTime, time_checks}
 

@@ -4,7 +4,7 @@ ghost use Rattle.std.specs.Prelude.{◌≡◌, ◌<◌, ◌⊎◌, ◌↔◌, Li
 ghost use Rattle.csv.specs.Records.{fields_of};
 ghost use Rattle.sk_checks.specs.Checks.{FirstRefuses, JudgesUnless};
 ghost use Rattle.sk_clock.specs.Clock.{ClockView, total as total_of};
-ghost use Rattle.sk_clock.specs.Row.{AreRows};
+ghost use Rattle.sk_publishing.specs.Row.{AreRows};
 ghost use Rattle.sk_leap.specs.declared.pair.LeapPair.{LeapPair};
 ghost use Rattle.sk_obs.specs.File.{records_of, header_fields, file_checks, AreObservations};
 ghost use Rattle.sk_obs.specs.Reading.{IsReading, rows_left};

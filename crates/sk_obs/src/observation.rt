@@ -13,7 +13,7 @@ pub struct Observation {
 }
 
 impl Model for Observation {
-    ghost use Rattle.sk_clock.specs.Row.{RowView};
+    ghost use Rattle.sk_publishing.specs.Row.{RowView};
     ghost use Rattle.sk_obs.specs.Observation.{IsObservation};
 
     ghost Value = { RowView };

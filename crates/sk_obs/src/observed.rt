@@ -3,7 +3,7 @@
 ghost use Rattle.std.specs.Prelude.{◌≡◌, ◌≤◌, ◌*◌, ◌^◌, ℤ, pos, ◌-ℤ◌, MatchOption, IfOk, IfSome, option_map};
 ghost use Rattle.csv.specs.Records.{fields_of};
 ghost use Rattle.sk_checks.specs.Checks.{JudgesUnless};
-ghost use Rattle.sk_clock.specs.Row.{IsObservedTime};
+ghost use Rattle.sk_publishing.specs.Row.{IsObservedTime};
 ghost use Rattle.sk_obs.specs.Words.{IsCounted};
 ghost use Rattle.sk_obs.specs.File.{observed_checks, IsObserved};
 

@@ -3,7 +3,7 @@
 ghost use Rattle.std.specs.Prelude.{◌≤◌, [], ◌∷◌, IfOk};
 ghost use Rattle.csv.specs.Records.{fields_of};
 ghost use Rattle.sk_checks.specs.Checks.{JudgesUnless, FirstRefuses, carried};
-ghost use Rattle.sk_clock.specs.Row.{IsObservedTime};
+ghost use Rattle.sk_publishing.specs.Row.{IsObservedTime};
 ghost use Rattle.sk_clock.specs.Clock.{total as total_of};
 ghost use Rattle.sk_obs.specs.Words.{word_checks, IsClockWord};
 ghost use Rattle.sk_obs.specs.File.{own_checks, clock_of, IsRecordOf};

@@ -11,8 +11,9 @@ use Rattle.sk_grammar.specs.declared.value.Value.TheVariants.{Number}
 use Rattle.sk_grammar.specs.declared.value.Op.TheVariants.{Append}
 use Rattle.sk_grammar.specs.Document.{ItemView, IsName, IsValue, IsItem, is_name_byte, is_text}
 use Rattle.sk_grammar.proofs.PlainLines.{all_both}
-use Rattle.sk_triples.specs.Terms.{TripleView}
-use Rattle.sk_triples.specs.Published.{reduced, triple_values, coefficients_name, coefficient_items}
+use Rattle.sk_line.specs.Triple.{TripleView}
+use Rattle.sk_publishing.specs.Published.{reduced, triple_values, coefficient_items}
+use Rattle.sk_line.specs.Triple.{coefficients_name}
 use Rattle.sk_publication.specs.Publication.{HasNumbers}
 use Rattle.sk_publication.proofs.Reduced.{reduced_decimal}
 

@@ -7,10 +7,10 @@ use Rattle.std.proofs.lemmas.List.Elements.{All-weaker, All-from_recursion}
 use Rattle.sk_decimal.specs.Number.{DecimalView}
 use Rattle.sk_grammar.specs.declared.value.Value.{Value}
 use Rattle.sk_grammar.specs.declared.value.Value.TheVariants.{Number}
-use Rattle.sk_triples.specs.Terms.{TripleView}
+use Rattle.sk_line.specs.Triple.{TripleView}
 use Rattle.sk_triples.specs.Kernel.{IsTriple, AreTriples}
-use Rattle.sk_triples.specs.Published.{reduced, triple_values}
-use Rattle.sk_triples.proofs.Lists.{all_back}
+use Rattle.sk_publishing.specs.Published.{reduced, triple_values}
+use Rattle.sk_line.proofs.Lists.{all_back}
 use Rattle.sk_publication.specs.Publication.{HasNumbers}
 
 abs_within : (z : ℤ) (n : ℕ) → neg_ℤ (pos n) ≤ℤ z → z ≤ℤ pos n → nat_abs z ≤ n

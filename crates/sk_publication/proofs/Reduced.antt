@@ -7,8 +7,8 @@ use Rattle.std.proofs.lemmas.Int.{ints, quot-rem, rem_below, unsigned_abs-mul}
 use Rattle.std.proofs.Math.Nat.{pow-suc}
 use Rattle.sk_decimal.specs.Number.{DecimalView, IsDecimal}
 use Rattle.sk_decimal.specs.Fixed.{HasUnits}
-use Rattle.sk_triples.specs.Published.{reduced}
-use Rattle.sk_triples.proofs.RoundedUp.{twice}
+use Rattle.sk_publishing.specs.Published.{reduced}
+use Rattle.sk_line.proofs.Products.{twice}
 
 -- a tenth of a multiple of ten
 tenth : (z : ℤ) → nat_abs z % 10 ≡ 0 → int_div z (pos 10) *ℤ pos 10 ≡ z

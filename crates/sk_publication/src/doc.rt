@@ -2,7 +2,7 @@
 
 ghost use Rattle.std.specs.Prelude.{◌≡◌, ◌≤◌, ◌++◌, All, IfOk, IfSome, codes, option_map};
 ghost use Rattle.sk_grammar.specs.Document.{IsDate, IsTextLine};
-ghost use Rattle.sk_triples.specs.Published.{appended, published_block};
+ghost use Rattle.sk_publishing.specs.Published.{appended, published_block};
 ghost use Rattle.sk_publication.specs.Publication.{HasNumbers};
 
 use crate::items::items_of;

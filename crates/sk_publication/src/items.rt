@@ -3,7 +3,8 @@
 ghost use Rattle.std.specs.Prelude.{◌≡◌, ◌<◌, ◌≤◌, ◌++◌, ◌∷◌, [], All, IfOk, IfSome, codes, flat_map, length, option_map};
 ghost use Rattle.sk_grammar.specs.Document.{IsDate, IsItem};
 ghost use Rattle.sk_grammar.specs.declared.value.Value.TheVariants.{Date};
-ghost use Rattle.sk_triples.specs.Published.{coefficients_name as coefficients_name_of, coefficient_items, id_items, triple_values};
+ghost use Rattle.sk_line.specs.Triple.{coefficients_name as coefficients_name_of};
+ghost use Rattle.sk_publishing.specs.Published.{coefficient_items, id_items, triple_values};
 ghost use Rattle.sk_publication.specs.Publication.{HasNumbers};
 
 use crate::numbers::numbers_of;

@@ -1,7 +1,7 @@
 //! The numbers of triples, as they stand in a kernel.
 
 ghost use Rattle.std.specs.Prelude.{◌≡◌, ◌≤◌, ◌<◌, ◌^◌, ◌++◌, All, OnOk, IfOk, flat_map, nat_abs};
-ghost use Rattle.sk_triples.specs.Published.{reduced, triple_values};
+ghost use Rattle.sk_publishing.specs.Published.{reduced, triple_values};
 ghost use Rattle.sk_publication.specs.Publication.{HasNumbers};
 
 use sk_checks::NoMemory;

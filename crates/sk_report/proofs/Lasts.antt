@@ -4,9 +4,9 @@ use Rattle.std.proofs.lemmas.Bool.{cases_lt, le-leb, lt-ltb, leb-true, ltb-true}
 use Rattle.std.specs.Prelude.{filter}
 use Rattle.std.specs.List.{list_any}
 use Rattle.std.specs.Option.{option_map, option_map_or}
-use Rattle.sk_clock.specs.Row.{RowView}
-use Rattle.sk_triples.specs.Terms.{Sight, sights_from}
-use Rattle.sk_triples.specs.Chain.{last_of}
+use Rattle.sk_publishing.specs.Row.{RowView}
+use Rattle.sk_publishing.specs.Terms.{Sight, sights_from}
+use Rattle.sk_publishing.specs.Chain.{last_of}
 use Rattle.sk_fit.specs.declared.chain.Segment.{Segment}
 use Rattle.sk_report.specs.Ends.{leaves}
 

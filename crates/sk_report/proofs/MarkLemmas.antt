@@ -7,10 +7,10 @@ use Rattle.std.proofs.Math.Bool.{or-false, or-true}
 use Rattle.std.specs.Prelude.{find, is_none, nat_le, if◌then◌else◌, codes}
 use Rattle.std.specs.List.{list_any, AllByRecursion}
 use Rattle.std.specs.Option.{option_map, option_map_or}
-use Rattle.sk_clock.specs.Row.{RowView}
-use Rattle.sk_triples.specs.Terms.{sights}
-use Rattle.sk_triples.specs.Chain.{SegmentView}
-use Rattle.sk_triples.specs.Table.{is_left_at, end_text}
+use Rattle.sk_publishing.specs.Row.{RowView}
+use Rattle.sk_publishing.specs.Terms.{sights}
+use Rattle.sk_publishing.specs.Chain.{SegmentView}
+use Rattle.sk_publishing.specs.Table.{is_left_at, end_text}
 use Rattle.sk_fit.specs.declared.chain.Chain.{Chain}
 use Rattle.sk_fit.specs.declared.chain.Segment.{Segment}
 use Rattle.sk_fit.specs.declared.chain.End.{End}

@@ -5,11 +5,11 @@ use Rattle.std.specs.List.{list_any, AllByRecursion, join_with_byte}
 use Rattle.std.proofs.lemmas.List.Folds.{list_any-append}
 use Rattle.sk_decimal.specs.Fixed.{fixed_text}
 use Rattle.sk_grammar.specs.Lines.{is_line_feed}
-use Rattle.sk_clock.specs.Row.{RowView}
+use Rattle.sk_publishing.specs.Row.{RowView}
 use Rattle.sk_clock.specs.Clock.{ClockView, clock_text}
-use Rattle.sk_triples.specs.Terms.{TripleView}
-use Rattle.sk_triples.specs.Line.{covering}
-use Rattle.sk_triples.specs.Table.{kernel_view, time_fields}
+use Rattle.sk_line.specs.Triple.{TripleView}
+use Rattle.sk_line.specs.Line.{covering}
+use Rattle.sk_publishing.specs.Table.{kernel_view, time_fields}
 use Rattle.sk_fit.specs.declared.chain.End.{End}
 use Rattle.sk_fit.specs.Given.{end_view}
 use Rattle.sk_report.specs.declared.marks.Marks.{Marks}

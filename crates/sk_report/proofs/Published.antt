@@ -4,14 +4,14 @@ use Rattle.std.proofs.lemmas.Bool.Decides.{eqb_tells}
 use Rattle.std.proofs.lemmas.Option.{slice_get_within}
 use Rattle.std.specs.Prelude.{Option, Some, None}
 use Rattle.std.specs.List.{AllByRecursion}
-use Rattle.sk_clock.specs.Row.{RowView, AreRows}
+use Rattle.sk_publishing.specs.Row.{RowView, AreRows}
 use Rattle.sk_clock.specs.Clock.{ClockView, total}
-use Rattle.sk_triples.specs.Terms.{Sight, Terms, partition_at, sights, sights_from}
-use Rattle.sk_triples.specs.Chain.{LastEnd, PartitionEnd, FixedEnd, BlockedEnd, SegmentView, last_of, covered_by, first_or, EachFollowed, FirstAndLater, ForNext, BeginsWithOld, LaterCover, IsFixed, IsBlocked, IsEnded}
-use Rattle.sk_triples.specs.Kept.{is_new}
+use Rattle.sk_publishing.specs.Terms.{Sight, Terms, partition_at, sights, sights_from}
+use Rattle.sk_publishing.specs.Chain.{LastEnd, PartitionEnd, FixedEnd, BlockedEnd, SegmentView, last_of, covered_by, first_or, EachFollowed, FirstAndLater, ForNext, BeginsWithOld, LaterCover, IsFixed, IsBlocked, IsEnded}
+use Rattle.sk_publishing.specs.Kept.{is_new}
 use Rattle.sk_triples.specs.Kernel.{TriplesView}
-use Rattle.sk_triples.proofs.Lists.{all_front, all_back, all_append}
-use Rattle.sk_triples.proofs.Chains.{starts}
+use Rattle.sk_line.proofs.Lists.{all_front, all_back, all_append}
+use Rattle.sk_publishing.proofs.Chains.{starts}
 use Rattle.sk_fit.specs.declared.settings.Settings.{Settings}
 use Rattle.sk_fit.specs.declared.chain.Chain.{Chain}
 use Rattle.sk_fit.specs.declared.chain.Segment.{Segment}

@@ -4,9 +4,9 @@ use Rattle.std.proofs.lemmas.List.{take_more, take-append-drop, length-take-le}
 use Rattle.std.proofs.Math.Seq.{drop-cons}
 use Rattle.sk_checks.specs.Checks.{Check, carried, FirstRefuses, NoneRefuses, each_after}
 use Rattle.sk_checks.proofs.ChecksLemmas.{FirstRefuses-front, FirstRefuses-rest, NoneRefuses-append, each_after-at}
-use Rattle.sk_clock.specs.Row.{RowView}
+use Rattle.sk_publishing.specs.Row.{RowView}
 use Rattle.sk_triples.specs.Kernel.{TriplesView, range_checks}
-use Rattle.sk_triples.specs.Table.{ChainView, KernelView, row_line, row_lines_from}
+use Rattle.sk_publishing.specs.Table.{ChainView, KernelView, row_line, row_lines_from}
 use Rattle.sk_report.specs.Report.{table_checks}
 use Rattle.sk_report.specs.declared.fault.ReportFault.{ReportFault}
 use Rattle.sk_report.specs.declared.fault.ReportFault.TheVariants.{Range}

@@ -15,14 +15,15 @@ use Rattle.sk_grammar.specs.Document.{IsTextLine}
 use Rattle.sk_grammar.specs.Lines.{is_line_feed, is_carriage_return}
 use Rattle.sk_grammar.proofs.Lists.{none_if_all}
 use Rattle.sk_grammar.proofs.PlainLines.{all_both, all_weaker, no_marker, none_trailing, is_byte_of, white_is_not}
-use Rattle.sk_clock.specs.Row.{RowView}
+use Rattle.sk_publishing.specs.Row.{RowView}
 use Rattle.sk_clock.specs.Clock.{ClockView, IsClock, clock_text, text_in, delimiter_byte, padded_fields, field_values, product}
 use Rattle.sk_obs.specs.Observation.{is_id_byte, IsId}
-use Rattle.sk_triples.specs.Terms.{TripleView, sights}
-use Rattle.sk_triples.specs.Line.{covering}
-use Rattle.sk_triples.specs.Chain.{SegmentView, EndView, LastEnd, PartitionEnd, FixedEnd, BlockedEnd}
+use Rattle.sk_line.specs.Triple.{TripleView}
+use Rattle.sk_publishing.specs.Terms.{sights}
+use Rattle.sk_line.specs.Line.{covering}
+use Rattle.sk_publishing.specs.Chain.{SegmentView, EndView, LastEnd, PartitionEnd, FixedEnd, BlockedEnd}
 use Rattle.sk_triples.specs.Kernel.{TriplesView}
-use Rattle.sk_triples.specs.Table.{ChainView, kernel_view, number_at, end_text, end_field, is_left_at, kind_text, time_fields, row_line, row_lines_from}
+use Rattle.sk_publishing.specs.Table.{ChainView, kernel_view, number_at, end_text, end_field, is_left_at, kind_text, time_fields, row_line, row_lines_from}
 use Rattle.sk_fit.specs.declared.chain.Chain.{Chain}
 use Rattle.sk_fit.specs.Given.{chain_view}
 use Rattle.sk_report.specs.Line.{IsLined}

@@ -2,9 +2,9 @@
 use Rattle.std.specs.Prelude.{◌≡◌, ℕ, ◌<◌, Bool, false, is_none, ◌==◌, List, length, slice_index_or, slice_set, find, Option, None, Some, if◌then◌else◌}
 use Rattle.std.specs.List.{list_any}
 use Rattle.std.specs.Option.{option_map}
-use Rattle.sk_clock.specs.Row.{RowView}
-use Rattle.sk_triples.specs.Terms.{sights}
-use Rattle.sk_triples.specs.Table.{is_left_at}
+use Rattle.sk_publishing.specs.Row.{RowView}
+use Rattle.sk_publishing.specs.Terms.{sights}
+use Rattle.sk_publishing.specs.Table.{is_left_at}
 use Rattle.sk_fit.specs.declared.chain.Segment.{Segment}
 use Rattle.sk_fit.specs.declared.chain.End.{End}
 use Rattle.sk_fit.specs.Given.{segment_view}

@@ -3,13 +3,13 @@ use Rattle.std.specs.Prelude.{◌≡◌, ℕ, ◌+◌, ◌*◌, ◌^◌, ◌-ℤ
 use Rattle.std.specs.List.{join_with_byte}
 use Rattle.sk_decimal.specs.Fixed.{fixed_text}
 use Rattle.sk_decimal.specs.Quotient.{floor_quotient}
-use Rattle.sk_clock.specs.Row.{RowView}
+use Rattle.sk_publishing.specs.Row.{RowView}
 use Rattle.sk_clock.specs.Clock.{ClockView, IsClock}
 use Rattle.sk_obs.specs.Observation.{IsId}
-use Rattle.sk_triples.specs.Terms.{TripleView}
-use Rattle.sk_triples.specs.Line.{line_over, covering}
+use Rattle.sk_line.specs.Triple.{TripleView}
+use Rattle.sk_line.specs.Line.{line_over, covering}
 use Rattle.sk_triples.specs.Kernel.{TriplesView}
-use Rattle.sk_triples.specs.Table.{KernelView, time_fields}
+use Rattle.sk_publishing.specs.Table.{KernelView, time_fields}
 use Rattle.sk_report.specs.declared.times.Timed.{Timed}
 
 -- the time and the place are those of the triple that covers the tick

@@ -1,8 +1,8 @@
 -- What a chain says of each observation, by places.
 use Rattle.std.specs.Prelude.{◌≡◌, ℕ, ◌<◌, false, nat_le, List, [], codes, slice_index_or, Option, None, IfSome, if◌then◌else◌}
 use Rattle.std.specs.Option.{option_map_or}
-use Rattle.sk_clock.specs.Row.{RowView}
-use Rattle.sk_triples.specs.Table.{ChainView, end_text, end_field, kind_text}
+use Rattle.sk_publishing.specs.Row.{RowView}
+use Rattle.sk_publishing.specs.Table.{ChainView, end_text, end_field, kind_text}
 use Rattle.sk_fit.specs.declared.chain.End.{End}
 use Rattle.sk_fit.specs.Given.{end_view}
 use Rattle.sk_report.specs.declared.marks.Marks.{Marks}

@@ -4,8 +4,8 @@ ghost use Rattle.std.specs.Prelude.{◌≡◌, ◌<◌, ℕ, All, Option, [], �
 ghost use Rattle.sk_checks.specs.Checks.{JudgesUnless, carried, FirstRefuses};
 ghost use Rattle.sk_grammar.specs.Document.{IsTextLine};
 ghost use Rattle.sk_triples.specs.Kernel.{AreOf, range_checks};
-ghost use Rattle.sk_triples.specs.Table.{ChainView, kernel_view, row_lines_from};
-ghost use Rattle.sk_triples.specs.Terms.{sights};
+ghost use Rattle.sk_publishing.specs.Table.{ChainView, kernel_view, row_lines_from};
+ghost use Rattle.sk_publishing.specs.Terms.{sights};
 ghost use Rattle.sk_fit.specs.Given.{chain_view};
 ghost use Rattle.sk_report.specs.Marks.{AreOver, Tells};
 ghost use Rattle.sk_report.specs.Line.{IsLined, fields_of};

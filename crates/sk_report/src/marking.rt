@@ -2,8 +2,8 @@
 
 ghost use Rattle.std.specs.Prelude.{◌≡◌, ◌<◌, ◌≤◌, ℕ, List, length, true, false, slice_index_or, slice_set, MatchOption, IfOk, IfSome, None, Some};
 ghost use Rattle.std.specs.List.{AllByRecursion};
-ghost use Rattle.sk_clock.specs.Row.{RowView};
-ghost use Rattle.sk_triples.specs.Terms.{sights};
+ghost use Rattle.sk_publishing.specs.Row.{RowView};
+ghost use Rattle.sk_publishing.specs.Terms.{sights};
 ghost use Rattle.sk_fit.specs.Given.{chain_view};
 ghost use Rattle.sk_report.specs.Report.{IsChainOver, IsSegmentWithin};
 ghost use Rattle.sk_report.specs.Marks.{AreOver, Tells};

@@ -1,7 +1,7 @@
 //! The words for an observation's kind and for the end of a segment.
 
 ghost use Rattle.std.specs.Prelude.{◌≡◌, ◌<◌, length, false, None, slice_index_or};
-ghost use Rattle.sk_triples.specs.Table.{end_text as end_text_of};
+ghost use Rattle.sk_publishing.specs.Table.{end_text as end_text_of};
 ghost use Rattle.sk_fit.specs.Given.{end_view};
 ghost use Rattle.sk_report.specs.Report.{IsEndWithin};
 ghost use Rattle.sk_report.specs.Marks.{AreOver, end_words, kind_word};

@@ -6,7 +6,7 @@ use Rattle.sk_decimal.specs.Fixed.{IsCeiling}
 use Rattle.sk_decimal.specs.Quotient.{ceiling_quotient}
 use Rattle.sk_decimal.proofs.Quotients.{ceiling_above, ceiling_least}
 use Rattle.sk_decimal.proofs.Signed.{≤ℤ-antisym, mul-le_right}
-use Rattle.sk_triples.proofs.RoundedUp.{twice}
+use Rattle.sk_line.proofs.Products.{twice}
 
 through : (a b c : ℤ) → a ≤ℤ b → b ≤ℤ c → a ≤ℤ c
 through a b c p q = omega (arith, ints)

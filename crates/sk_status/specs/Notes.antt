@@ -56,6 +56,8 @@ use Rattle.sk_status.specs.declared.status.TimeStop.{TimeStop}
 use Rattle.sk_status.specs.declared.status.TimeStop.TheVariants as time_stop
 use Rattle.sk_status.specs.declared.status.TextStop.{TextStop}
 use Rattle.sk_status.specs.declared.status.TextStop.TheVariants as text_stop
+use Rattle.sk_status.specs.declared.status.DocumentKind.{DocumentKind}
+use Rattle.sk_status.specs.declared.status.DocumentKind.TheVariants as document
 use Rattle.sk_status.specs.declared.status.FileKind.{FileKind}
 use Rattle.sk_status.specs.declared.status.FileKind.TheVariants as file
 use Rattle.sk_words.specs.Request.{name_of}
@@ -167,6 +169,7 @@ abbrev pub triples_words : TriplesFault → Words
 triples_words triples.Missing = plain (codes "Missing")
 triples_words triples.NotTriples = plain (codes "NotTriples")
 triples_words (triples.TickRange n) = numbered (codes "TickRange") n
+triples_words (triples.TimeForm n) = numbered (codes "TimeForm") n
 triples_words (triples.TimeRange n) = numbered (codes "TimeRange") n
 triples_words (triples.RateRange n) = numbered (codes "RateRange") n
 triples_words (triples.OutOfOrder n) = numbered (codes "OutOfOrder") n
@@ -279,12 +282,15 @@ time_words time_stop.PastEnd = plain (codes "PastEnd")
 
 -- ---- the line
 
+abbrev pub document_words : DocumentKind → Words
+document_words document.Leap = plain (codes "Leap")
+document_words document.Kernel = plain (codes "Kernel")
+document_words document.New = plain (codes "New")
+document_words (document.Over place) = numbered (codes "Over") place
+
 abbrev pub file_words : FileKind → Words
-file_words file.Leap = plain (codes "Leap")
-file_words file.Kernel = plain (codes "Kernel")
+file_words (file.Document kind) = document_words kind
 file_words file.Observations = plain (codes "Observations")
-file_words file.New = plain (codes "New")
-file_words (file.Over place) = numbered (codes "Over") place
 
 abbrev pub status_words : Status → Words
 status_words Done = []

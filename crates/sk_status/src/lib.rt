@@ -10,4 +10,6 @@ mod tests;
 mod words;
 
 pub use note::{line_for, write_note};
-pub use status::{FileKind, KernelStop, LeapStop, ObsStop, Status, TextStop, TimeStop};
+pub use status::{
+    DocumentKind, FileKind, KernelStop, LeapStop, ObsStop, Status, TextStop, TimeStop,
+};

@@ -3,8 +3,7 @@
 ghost use Rattle.std.specs.Prelude.{◌≡◌, ◌≤◌, ◌+◌, ◌*◌, ◌^◌, [], ◌++◌, ◌∷◌, length, codes, decimal, nat_abs, pos, ◌<ℤ◌};
 ghost use Rattle.sk_decimal.specs.Fixed.{fixed_text};
 ghost use Rattle.sk_decimal.specs.Quotient.{ceiling_quotient};
-ghost use Rattle.sk_edge.specs.Causes.{Rose};
-ghost use Rattle.sk_status.specs.Written.{Written, IsNoted};
+ghost use Rattle.sk_status.specs.Written.{written_by, IsNoted};
 ghost use Rattle.sk_status.specs.Notes.{behind, note_line, status_words, fit_words};
 ghost use Rattle.sk_status.specs.Status.{code_of};
 
@@ -144,12 +143,7 @@ pub fn line_for(status: Status) -> Line
 
 /// Writes the line of a status to the notes; nothing of a run that is done.
 pub fn write_note<N: Sink>(notes: &mut N, status: Status)
-    ensures { let noted : Written = record {
-      before = N.written notes.old;
-      after = N.written notes.new;
-      rose = Rose (N.faults notes.old) (N.faults notes.new);
-    } in
-        IsNoted noted status }
+    ensures { IsNoted (written_by N.written N.faults notes.old notes.new) status }
 {
     match status {
         Status::Done => {}

@@ -49,13 +49,21 @@ pub enum TextStop {
     Grammar(GrammarFault),
 }
 
+/// A kernel text that a run reads: the leap second kernel, the clock kernel, the kernel that is to be audited, or the
+/// kernel at a place of `--over`, from 1.
 #[derive(Clone, Copy, Debug)]
-pub enum FileKind {
+pub enum DocumentKind {
     Leap,
     Kernel,
-    Observations,
     New,
     Over(u32),
+}
+
+/// A file that a run reads.
+#[derive(Clone, Copy, Debug)]
+pub enum FileKind {
+    Document(DocumentKind),
+    Observations,
 }
 
 /// How a run ends.

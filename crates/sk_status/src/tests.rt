@@ -61,7 +61,7 @@ fn each_end_has_a_line_and_a_number(rt: HostRuntime) {
             "refused;6;OldFalls;3;170141183460469231731687303716\n",
         ),
         (
-            Status::ReadFault(FileKind::Over(3)),
+            Status::ReadFault(FileKind::Document(DocumentKind::Over(3))),
             7,
             "refused;7;Over;3\n",
         ),

@@ -1,7 +1,7 @@
 //! The words that follow a status's number in the notes.
 ghost use Rattle.std.specs.Prelude.{◌≡◌, ◌≤◌, ◌+◌, [], ◌++◌, ◌∷◌, length, codes};
 ghost use Rattle.sk_words.specs.Request.{name_of};
-ghost use Rattle.sk_status.specs.Notes.{behind, grammar_words, pool_words, text_words, leap_fault_words, leap_words, clock_kernel_words, triples_words, kernel_words, clock_word_words, code_words, record_words, observation_words, audit_words, excerpt_words, time_words, file_words, words_words};
+ghost use Rattle.sk_status.specs.Notes.{behind, grammar_words, pool_words, text_words, leap_fault_words, leap_words, clock_kernel_words, triples_words, kernel_words, clock_word_words, code_words, record_words, observation_words, audit_words, excerpt_words, time_words, document_words, file_words, words_words};
 
 use crate::names::{
     cds_text, clock_name_text, count_text, cuc_text, leap_name_text, range_text, reason_text,
@@ -10,7 +10,7 @@ use crate::names::{
 use crate::pieces::{
     push_numbered, push_numbered_word, push_three, push_two, push_word, push_word_numbered,
 };
-use crate::status::{FileKind, KernelStop, LeapStop, ObsStop, TextStop, TimeStop};
+use crate::status::{DocumentKind, FileKind, KernelStop, LeapStop, ObsStop, TextStop, TimeStop};
 use sk_audit::AuditFault;
 use sk_clock::ClockKernelFault;
 use sk_decimal::Line;
@@ -120,6 +120,7 @@ fn push_triples(line: &mut Line, fault: TriplesFault)
         TriplesFault::Missing => push_two(line, "Triples", "Missing"),
         TriplesFault::NotTriples => push_two(line, "Triples", "NotTriples"),
         TriplesFault::TickRange(triple) => push_word_numbered(line, "Triples", "TickRange", triple),
+        TriplesFault::TimeForm(triple) => push_word_numbered(line, "Triples", "TimeForm", triple),
         TriplesFault::TimeRange(triple) => push_word_numbered(line, "Triples", "TimeRange", triple),
         TriplesFault::RateRange(triple) => push_word_numbered(line, "Triples", "RateRange", triple),
         TriplesFault::OutOfOrder(triple) => push_word_numbered(
@@ -287,17 +288,27 @@ pub fn push_time(line: &mut Line, stop: TimeStop)
     }
 }
 
+fn push_document(line: &mut Line, kind: DocumentKind)
+    requires { length line.old ≤ 50 }
+    ensures words { line.new ≡ line.old ++ behind (document_words kind) }
+    ensures length { length line.new ≤ length line.old + 50 }
+{
+    match kind {
+        DocumentKind::Leap => push_word(line, "Leap"),
+        DocumentKind::Kernel => push_word(line, "Kernel"),
+        DocumentKind::New => push_word(line, "New"),
+        DocumentKind::Over(place) => push_numbered(line, "Over", place),
+    }
+}
+
 pub fn push_file(line: &mut Line, kind: FileKind)
     requires { length line.old ≤ 50 }
     ensures words { line.new ≡ line.old ++ behind (file_words kind) }
     ensures length { length line.new ≤ length line.old + 50 }
 {
     match kind {
-        FileKind::Leap => push_word(line, "Leap"),
-        FileKind::Kernel => push_word(line, "Kernel"),
+        FileKind::Document(kind) => push_document(line, kind),
         FileKind::Observations => push_word(line, "Observations"),
-        FileKind::New => push_word(line, "New"),
-        FileKind::Over(place) => push_numbered(line, "Over", place),
     }
 }
 

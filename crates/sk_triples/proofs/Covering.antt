@@ -7,8 +7,8 @@ use Rattle.std.specs.Prelude.{ℤ, ◌<ℤ◌, slice_get, unwrap_or, SomeIff}
 use Rattle.std.specs.List.{AllWithin, AllByRecursion}
 use Rattle.std.specs.Option.{option_map_or, option_map}
 use Rattle.std.specs.List.Sorted.{IsNonDecreasingBy}
-use Rattle.sk_triples.specs.Terms.{TripleView}
-use Rattle.sk_triples.specs.Line.{covering, covering_from, begun_at}
+use Rattle.sk_line.specs.Triple.{TripleView}
+use Rattle.sk_line.specs.Line.{covering, covering_from, begun_at}
 use Rattle.sk_triples.specs.Kernel.{Rise, IsCovering, AreTriples, IsTriple}
 
 pub rise_tail : (a : TripleView) (ts : List TripleView) → Rise (a ∷ ts) → Rise ts

@@ -8,9 +8,9 @@ use Rattle.std.specs.Prelude.{ℤ, pos, negsuc, neg_ℤ, ◌+ℤ◌, ◌*ℤ◌,
 use Rattle.std.specs.Int.{w128}
 use Rattle.sk_decimal.specs.Number.{DecimalView}
 use Rattle.sk_decimal.specs.Fixed.{FitsWide, units_of}
-use Rattle.sk_triples.specs.Coefficients.{IsLess, HasSizeUpTo, IsRowTime, IsRowRate}
+use Rattle.sk_triples.specs.Coefficients.{IsLess, HasSizeUpTo, IsRowTime, Seconds, IsRowRate}
 use Rattle.sk_decimal.proofs.Signed.{mul-le_right, ≤ℤ-<ℤ, add-mul}
-use Rattle.sk_triples.proofs.RoundedUp.{power_positive, twice}
+use Rattle.sk_line.proofs.Products.{power_positive, twice}
 
 -- ten to a scale and to what is left of eighteen
 pub power_left : (scale : ℕ) → scale ≤ 18 → 10 ^ scale * 10 ^ (18 - scale) ≡ 10 ^ 18
@@ -42,7 +42,7 @@ small_size n d h s =
 pub small_fits : (n : ℕ) (d : DecimalView) → n ≤ 10 ^ 10 → d.scale ≤ 18 → HasSizeUpTo n d → FitsWide (units_of 18 d)
 small_fits n d few h s = fits_signed_from_abs w128 (units_of 18 d) (let le = small_units n d h s in omega arith)
 
--- ---- signs and order
+-- ---- signs
 
 times_less : (a b : ℤ) (k : ℕ) → 0 < k → a <ℤ b → (a *ℤ pos k) <ℤ (b *ℤ pos k)
 times_less a b k h p =
@@ -75,48 +75,18 @@ positive_units d h = times_positive d.coefficient (10 ^ (18 - d.scale)) (power_p
 pub positive_number : (d : DecimalView) → pos 0 <ℤ units_of 18 d → pos 0 <ℤ d.coefficient
 positive_number d h = by_positive d.coefficient (10 ^ (18 - d.scale)) h
 
--- units over the scale are the number times ten to eighteen
-over_scale : (d : DecimalView) → d.scale ≤ 18 → units_of 18 d *ℤ pos (10 ^ d.scale) ≡ d.coefficient *ℤ pos (10 ^ 18)
-over_scale d h = twice d.coefficient (10 ^ (18 - d.scale)) (10 ^ d.scale) ∙ ap (λ (k : ℕ). d.coefficient *ℤ pos k) (mul_comm (10 ^ (18 - d.scale)) (10 ^ d.scale) ∙ power_left d.scale h)
-
-joined : (a b c d : ℤ) → a ≡ c → b ≡ d → c <ℤ d → a <ℤ b
-joined a b c d p q h = subst (λ (x : ℤ). x <ℤ b) (sym p) (subst (λ (x : ℤ). c <ℤ x) (sym q) h)
-
--- a number times two powers of ten
-raised : (d : DecimalView) (s : ℕ) → d.scale ≤ 18 → (d.coefficient *ℤ pos (10 ^ s)) *ℤ pos (10 ^ 18) ≡ units_of 18 d *ℤ pos (10 ^ d.scale * 10 ^ s)
-raised d s h =
-    twice d.coefficient (10 ^ s) (10 ^ 18) ∙ ap (λ (k : ℕ). d.coefficient *ℤ pos k) (mul_comm (10 ^ s) (10 ^ 18))
-    ∙ sym (twice d.coefficient (10 ^ 18) (10 ^ s)) ∙ ap (λ (x : ℤ). x *ℤ pos (10 ^ s)) (sym (over_scale d h))
-    ∙ twice (units_of 18 d) (10 ^ d.scale) (10 ^ s)
-
-module _ (a b : DecimalView) (p : a.scale ≤ 18) (q : b.scale ≤ 18) where
-  left : (a.coefficient *ℤ pos (10 ^ b.scale)) *ℤ pos (10 ^ 18) ≡ units_of 18 a *ℤ pos (10 ^ a.scale * 10 ^ b.scale)
-  left = raised a b.scale p
-
-  right : (b.coefficient *ℤ pos (10 ^ a.scale)) *ℤ pos (10 ^ 18) ≡ units_of 18 b *ℤ pos (10 ^ a.scale * 10 ^ b.scale)
-  right = raised b a.scale q ∙ ap (λ (k : ℕ). units_of 18 b *ℤ pos k) (mul_comm (10 ^ b.scale) (10 ^ a.scale))
-
-  -- what is less has fewer units, and the other way round
-  pub less_units : IsLess a b → units_of 18 a <ℤ units_of 18 b
-  less_units h = by_less (units_of 18 a) (units_of 18 b) (10 ^ a.scale * 10 ^ b.scale)
-      (joined _ _ _ _ (sym left) (sym right) (times_less (a.coefficient *ℤ pos (10 ^ b.scale)) (b.coefficient *ℤ pos (10 ^ a.scale)) (10 ^ 18) (omega arith) h))
-
-  pub less_number : units_of 18 a <ℤ units_of 18 b → IsLess a b
-  less_number h = by_less (a.coefficient *ℤ pos (10 ^ b.scale)) (b.coefficient *ℤ pos (10 ^ a.scale)) (10 ^ 18)
-      (joined _ _ _ _ left right (times_less (units_of 18 a) (units_of 18 b) (10 ^ a.scale * 10 ^ b.scale) (one-le-mul (power_positive a.scale) (power_positive b.scale)) h))
-
 -- ---- times and rates
 
-pub no_time : (d : DecimalView) → ¬ ((d.scale ≤ 18) × FitsWide (units_of 18 d)) → ¬ IsRowTime d
+pub no_time : (d : DecimalView) → ¬ ((d.scale ≤ 18) × FitsWide (units_of 18 d)) → ¬ IsRowTime (Seconds d)
 no_time d none h = none (h.0, small_fits (10 ^ 10) d (omega arith) h.0 h.1)
 
 pub no_rate : (d : DecimalView) → ¬ ((d.scale ≤ 18) × FitsWide (units_of 18 d)) → ¬ IsRowRate d
 no_rate d none h = none (h.0, small_fits 1000 d (omega arith) h.0 h.1)
 
-pub is_time : (d : DecimalView) → d.scale ≤ 18 → nat_abs (units_of 18 d) ≤ 10 ^ 28 → IsRowTime d
+pub is_time : (d : DecimalView) → d.scale ≤ 18 → nat_abs (units_of 18 d) ≤ 10 ^ 28 → IsRowTime (Seconds d)
 is_time d h s = (h, small_size (10 ^ 10) d h s)
 
-pub large_time : (d : DecimalView) → d.scale ≤ 18 → 10 ^ 28 < nat_abs (units_of 18 d) → ¬ IsRowTime d
+pub large_time : (d : DecimalView) → d.scale ≤ 18 → 10 ^ 28 < nat_abs (units_of 18 d) → ¬ IsRowTime (Seconds d)
 large_time d h s r = let most : nat_abs (units_of 18 d) ≤ 10 ^ 28 = small_units (10 ^ 10) d h r.1 in omega arith
 
 abs_of : (z : ℤ) (n : ℕ) → pos 0 <ℤ z → z ≤ℤ pos n → nat_abs z ≤ n

@@ -9,8 +9,8 @@ use Rattle.sk_checks.specs.Checks.{FirstRefuses, NoneRefuses, each_after}
 use Rattle.sk_grammar.specs.declared.value.Value.{Value}
 use Rattle.sk_grammar.specs.Variables.{VariableView, values_at}
 use Rattle.sk_clock.specs.Clock.{ClockView, IsClock, product, ticks_per, total}
-use Rattle.sk_triples.specs.Terms.{TripleView}
-use Rattle.sk_triples.specs.Published.{coefficients_name}
+use Rattle.sk_line.specs.Triple.{TripleView}
+use Rattle.sk_line.specs.Triple.{coefficients_name}
 use Rattle.sk_triples.specs.Kernel.{AreKept}
 use Rattle.sk_triples.specs.Coefficients.{Row, row_values, rows_of, row_checks, values_for, triples_checks, AreTriplesOf, IsTripleOf}
 use Rattle.sk_triples.specs.Reading.{AreRead}

@@ -1,14 +1,3 @@
-mod Worked
-pub mod Bounds
-pub mod Lists
-pub mod Chains
-pub mod Sorting
-pub mod Interval
-pub mod Steps
-pub mod RoundedUp
-pub mod NewKernel
-pub mod Division
-pub mod Rows
 pub mod Decimals
 pub mod Threes
 pub mod ReadRows
@@ -16,4 +5,4 @@ pub mod KernelOf
 pub mod Covering
 pub mod Wide
 pub mod Falls
-pub mod Fitting
+pub mod RowTimes

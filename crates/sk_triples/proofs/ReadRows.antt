@@ -4,19 +4,18 @@ use Rattle.std.proofs.lemmas.Bool.{cases_lt}
 use Rattle.std.proofs.lemmas.Int.{ints}
 use Rattle.std.specs.Prelude.{ℤ, pos, ◌<ℤ◌}
 use Rattle.sk_decimal.specs.Number.{DecimalView}
-use Rattle.sk_decimal.specs.Fixed.{HasUnits, units_of}
 use Rattle.sk_grammar.specs.declared.value.Value.TheVariants.{Number}
 use Rattle.sk_grammar.specs.Variables.{whole}
-use Rattle.sk_triples.specs.Terms.{TripleView}
-use Rattle.sk_triples.specs.Coefficients.{Row, IsLess, IsTripleOf, row_checks}
+use Rattle.sk_line.specs.Triple.{TripleView}
+use Rattle.sk_triples.specs.Coefficients.{Row, RowTime, HasTime, IsEarlier, IsLess, IsTickUpTo, IsTripleOf, time_checks, row_checks}
 use Rattle.sk_triples.specs.Kernel.{IsTriple, Rise}
 use Rattle.sk_triples.specs.Reading.{ArePair, Follows, IsRead, AreRead, IsReadUpTo}
 use Rattle.sk_triples.specs.declared.triple.TriplesFault.{TriplesFault}
 use Rattle.std.specs.List.{AllZip, last_or}
 use Rattle.sk_checks.specs.Checks.{Check, FirstRefuses, NoneRefuses, each_after}
 use Rattle.sk_checks.proofs.ChecksLemmas.{FirstRefuses-front, FirstRefuses-rest, NoneRefuses-append, each_after-at}
-use Rattle.sk_triples.proofs.Lists.{all_append}
-use Rattle.sk_triples.proofs.Decimals.{less_units, less_number}
+use Rattle.sk_line.proofs.Lists.{all_append}
+use Rattle.sk_triples.proofs.RowTimes.{time_one}
 
 -- ---- whole numbers
 
@@ -37,17 +36,18 @@ less_ticks a b m n p q h =
     let l : IsLess (whole_number m) (whole_number n) = omega (arith, ints) in
     subst (λ (x : DecimalView). IsLess x b) (sym (number_is a m p)) (subst (λ (x : DecimalView). IsLess (whole_number m) x) (sym (number_is b n q)) l)
 
-times_less : (a b : DecimalView) (x y : ℤ) → HasUnits 18 a x → HasUnits 18 b y → IsLess a b → x <ℤ y
-times_less a b x y p q h = subst (λ (z : ℤ). z <ℤ y) (sym p.1) (subst (λ (z : ℤ). units_of 18 a <ℤ z) (sym q.1) (less_units a b p.0 q.0 h))
+times_less : (a b : RowTime) (x y : ℤ) → HasTime a x → HasTime b y → IsEarlier a b → x <ℤ y
+times_less a b x y p q h =
+    subst (λ (z : ℤ). z <ℤ y) (time_one a h.0 x h.2 p) (subst (λ (z : ℤ). h.0 <ℤ z) (time_one b h.1 y h.3 q) h.4)
 
-less_times : (a b : DecimalView) (x y : ℤ) → HasUnits 18 a x → HasUnits 18 b y → x <ℤ y → IsLess a b
-less_times a b x y p q h = less_number a b p.0 q.0 (subst (λ (z : ℤ). z <ℤ units_of 18 b) p.1 (subst (λ (z : ℤ). x <ℤ z) q.1 h))
+less_times : (a b : RowTime) (x y : ℤ) → HasTime a x → HasTime b y → x <ℤ y → IsEarlier a b
+less_times a b x y p q h = (x, y, p, q, h)
 
 -- ---- the order of two rows
 
 -- the row is not behind the one before it
 abbrev pub IsOut : Row → Row → Type 0
-IsOut row previous = (¬ IsLess previous.ticks row.ticks) ⊎ (¬ IsLess previous.time row.time)
+IsOut row previous = (¬ IsLess previous.ticks row.ticks) ⊎ (¬ IsEarlier previous.time row.time)
 
 pub in_order : (previous : Option Row) (before : Option TripleView) (row : Row) (triple : TripleView)
     → ArePair previous before → IsTripleOf row triple → Follows before triple → ¬ IsSomeAnd previous (IsOut row)
@@ -65,6 +65,24 @@ out_of_order (Some previous) (Some before) row triple pair of not = elim (cases_
   | inl p ↦ inr (λ l. not (p, times_less _ _ _ _ pair.time of.time l))
   | inr p ↦ inl (λ l. let less = ticks_less _ _ _ _ pair.ticks of.ticks l in omega arith)
 ]
+
+-- ---- one row
+
+-- what is refused of the time is refused of the row
+pub time_refused : (total n : ℕ) (before : Option Row) (row : Row) (fault : TriplesFault) → (((tick : ℕ) → ¬ IsTickUpTo total row.ticks tick) → ⊥)
+    → FirstRefuses (time_checks n row.time) fault → FirstRefuses (row_checks total before n row) fault
+time_refused total n before row fault tick (inl form) = inr (tick, inl form)
+time_refused total n before row fault tick (inr (form, inl range)) = inr (tick, inr (form, inl range))
+time_refused total n before row fault tick (inr (form, inr none)) = absurd none.1
+
+-- what is refused of the row alone is refused of it behind another one
+pub refused_alone : (total n : ℕ) (before : Option Row) (row : Row) (fault : TriplesFault) → FirstRefuses (row_checks total None n row) fault → FirstRefuses (row_checks total before n row) fault
+refused_alone total n before row fault (inl ticks) = inl ticks
+refused_alone total n before row fault (inr (a, inl form)) = inr (a, inl form)
+refused_alone total n before row fault (inr (a, inr (b, inl range))) = inr (a, inr (b, inl range))
+refused_alone total n before row fault (inr (a, inr (b, inr (c, inl rate)))) = inr (a, inr (b, inr (c, inl rate)))
+refused_alone total n before row fault (inr (a, inr (b, inr (c, inr (d, inl out))))) = absurd out.0
+refused_alone total n before row fault (inr (a, inr (b, inr (c, inr (d, inr none))))) = absurd none.1
 
 -- ---- one row more
 

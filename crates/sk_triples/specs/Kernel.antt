@@ -4,8 +4,8 @@ use Rattle.std.specs.List.{AllByRecursion}
 use Rattle.std.specs.Int.{IsInRange}
 use Rattle.sk_checks.specs.Checks.{Check, ◌⇒◌}
 use Rattle.sk_clock.specs.Clock.{ClockView, ticks_per, total}
-use Rattle.sk_triples.specs.Terms.{TripleView}
-use Rattle.sk_triples.specs.Line.{covering, fall_over}
+use Rattle.sk_line.specs.Triple.{TripleView}
+use Rattle.sk_line.specs.Line.{covering, fall_over}
 use Rattle.sk_triples.specs.declared.triple.RangeFault.{RangeFault}
 use Rattle.sk_triples.specs.declared.triple.RangeFault.TheVariants.{BeforeFirst, PastPartitions}
 

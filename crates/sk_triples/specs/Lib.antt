@@ -1,14 +1,4 @@
-pub mod Terms
-pub mod Line
-pub mod Rates
-pub mod Chain
-pub mod Kept
-pub mod Table
 pub mod Kernel
 pub mod Coefficients
-pub mod Input
-pub mod Published
-pub mod Laws
 pub mod Values
 pub mod Reading
-pub mod Built

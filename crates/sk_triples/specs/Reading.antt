@@ -1,10 +1,17 @@
 -- Triples as they are read, one after the other.
-use Rattle.std.specs.Prelude.{◌≡◌, ℕ, ◌<◌, ◌<ℤ◌, List, ◌++◌, length, Option, Some, None}
+use Rattle.std.specs.Prelude.{◌≡◌, ℕ, ◌^◌, ◌<◌, ℤ, pos, neg_ℤ, ◌<ℤ◌, ◌≤ℤ◌, List, ◌++◌, length, Option, Some, None}
 use Rattle.std.specs.List.{AllZip, AllByRecursion, last_or}
 use Rattle.sk_checks.specs.Checks.{NoneRefuses, each_after}
-use Rattle.sk_triples.specs.Terms.{TripleView}
+use Rattle.sk_line.specs.Triple.{TripleView}
 use Rattle.sk_triples.specs.Kernel.{IsTriple, Rise}
-use Rattle.sk_triples.specs.Coefficients.{Row, IsTripleOf, row_checks}
+use Rattle.sk_triples.specs.Coefficients.{Row, RowTime, IsRowTime, HasTime, IsTripleOf, row_checks}
+
+-- the time of a row, at most 10 ^ 10 s in size
+pub record IsTimeOf (row : RowTime) (time : ℤ) : Type 0 where
+  pub is_row : IsRowTime row
+  pub has : HasTime row time
+  pub from : neg_ℤ (pos (10 ^ 28)) ≤ℤ time
+  pub to : time ≤ℤ pos (10 ^ 28)
 
 -- the triple before, where there is one, has the numbers of the row before
 abbrev pub ArePair : Option Row → Option TripleView → Type 0

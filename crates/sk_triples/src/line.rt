@@ -2,7 +2,7 @@
 
 ghost use Rattle.std.specs.Prelude.{◌≡◌, ◌-◌, ◌*◌, ◌^◌, ◌<◌, ◌≤◌, pos, neg_ℤ, ◌*ℤ◌, ◌≤ℤ◌, ◌<ℤ◌};
 ghost use Rattle.sk_triples.specs.Kernel.{IsTriple};
-ghost use Rattle.sk_triples.specs.Line.{line_over as line_over_of, fall_over as fall_over_of};
+ghost use Rattle.sk_line.specs.Line.{line_over as line_over_of, fall_over as fall_over_of};
 
 use crate::triple::Triple;
 

@@ -1,8 +1,8 @@
 //! The triple of a tick.
 
 ghost use Rattle.std.specs.Prelude.{◌≡◌, ◌≤◌, ◌↔◌, ◌+◌, ℕ, List, Some, length, option_map};
-ghost use Rattle.sk_triples.specs.Terms.{TripleView};
-ghost use Rattle.sk_triples.specs.Line.{covering, begun_at};
+ghost use Rattle.sk_line.specs.Triple.{TripleView};
+ghost use Rattle.sk_line.specs.Line.{covering, begun_at};
 ghost use Rattle.sk_triples.specs.Kernel.{AreTriples, IsCovering, Rise};
 
 use crate::triple::Triple;

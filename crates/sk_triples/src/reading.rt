@@ -1,28 +1,37 @@
 //! Triples as they are read, one after the other.
 
-ghost use Rattle.std.specs.Prelude.{◌≡◌, ℕ, ◌+◌, ◌^◌, ◌<◌, ◌≤◌, length, Option, Some, None, IsTrue, ◌↔◌, ◌∷◌, []};
+ghost use Rattle.std.specs.Prelude.{◌≡◌, true, ℕ, ◌+◌, ◌^◌, ◌<◌, ◌≤◌, length, Option, Some, None, IsTrue, ◌↔◌, ◌∷◌, []};
 ghost use Rattle.sk_checks.specs.Checks.{Judges, JudgesUnless, each_after};
 ghost use Rattle.sk_triples.specs.Coefficients.{Row, row_checks, rows_of};
 ghost use Rattle.sk_triples.specs.Reading.{ArePair, AreRead, Follows, IsRead};
+ghost use Rattle.sk_triples.specs.Values.{is_time, row_of};
 
 use crate::numbers::{rate_of, tick_of, time_of};
 use crate::triple::{Triple, TriplesFault};
-use crate::values::{Numbers, first_row};
+use crate::values::first_row;
+use sk_decimal::Decimal;
 use sk_grammar::Value;
 use std::alloc::Global;
 
 // The triple of these numbers, whatever stands before it.
-fn triple_of(total: u64, number: u32, row: &Numbers) -> Result<Triple, TriplesFault>
-    requires { total < 2 ^ 53 }
-    ensures { Judges (row_checks total None number row.now) (IsRead total row.now) result }
+fn triple_of(
+    total: u64,
+    number: u32,
+    row: (Decimal, &Value, Decimal),
+) -> Result<Triple, TriplesFault>
+    requires total { total < 2 ^ 53 }
+    requires time { is_time row.1.now ≡ true }
+    ensures { Judges (row_checks total None number (row_of row.entry)) (IsRead total (row_of row.entry)) result }
 {
-    let Some(ticks) = tick_of(row.ticks, total) else {
+    let (ticks, time, rate) = row;
+    let Some(ticks) = tick_of(ticks, total) else {
         return Err(TriplesFault::TickRange(number));
     };
-    let Some(time) = time_of(row.time) else {
-        return Err(TriplesFault::TimeRange(number));
+    let time = match time_of(number, time) {
+        Ok(time) => time,
+        Err(fault) => return Err(fault),
     };
-    let Some(rate) = rate_of(row.rate) else {
+    let Some(rate) = rate_of(rate) else {
         return Err(TriplesFault::RateRange(number));
     };
     Ok(Triple { ticks, time, rate })
@@ -42,13 +51,15 @@ fn next_triple(
     total: u64,
     before: Option<Triple>,
     number: u32,
-    row: &Numbers,
+    row: (Decimal, &Value, Decimal),
 ) -> Result<Triple, TriplesFault>
-    requires { total < 2 ^ 53 }
+    requires total { total < 2 ^ 53 }
+    requires time { is_time row.1.now ≡ true }
     ensures { (previous : Option Row) → ArePair previous before
-        → Judges (row_checks total previous number row.now) (λ triple. IsRead total row.now triple × Follows before triple) result }
+        → Judges (row_checks total previous number (row_of row.entry)) (λ triple. IsRead total (row_of row.entry) triple × Follows before triple) result }
 {
-    match triple_of(total, number, row) {
+    let (ticks, time, rate) = row;
+    match triple_of(total, number, (ticks, time, rate)) {
         Err(fault) => Err(fault),
         Ok(triple) => {
             if follows(before, triple) {
@@ -76,7 +87,7 @@ pub fn read_triples(
     let mut rest = values;
     'rows: while let Some(row) = first_row(rest) {
         number += 1;
-        let triple = match next_triple(total, before, number, &row) {
+        let triple = match next_triple(total, before, number, row) {
             Ok(triple) => triple,
             Err(fault) => return Err(fault),
         };

@@ -11,7 +11,7 @@ pub struct Triple {
 }
 
 impl Model for Triple {
-    ghost use Rattle.sk_triples.specs.Terms.{TripleView};
+    ghost use Rattle.sk_line.specs.Triple.{TripleView};
 
     ghost Value = { TripleView };
 
@@ -25,10 +25,12 @@ impl Model for Triple {
 pub enum TriplesFault {
     #[error("there are no coefficients")]
     Missing,
-    #[error("the coefficients are no triples of numbers")]
+    #[error("the coefficients are no triples of a number, a number or a date, and a number")]
     NotTriples,
     #[error("triple {0}: the ticks are out of range")]
     TickRange(u32),
+    #[error("triple {0}: the date is no calendar time")]
+    TimeForm(u32),
     #[error("triple {0}: the time is out of range")]
     TimeRange(u32),
     #[error("triple {0}: the rate is out of range")]

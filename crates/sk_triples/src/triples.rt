@@ -1,7 +1,7 @@
 ghost use Rattle.std.specs.Prelude.{◌≡◌, ◌≤◌, ◌++◌, ◌+◌, ◌*◌, ◌^◌, ℕ, length, pos, ◌*ℤ◌, ◌≤ℤ◌, option_map, MatchOption, IfOk};
 ghost use Rattle.std.specs.Int.{IsInRange};
 ghost use Rattle.sk_checks.specs.Checks.{Judges, JudgesUnless};
-ghost use Rattle.sk_triples.specs.Published.{coefficients_name as coefficients_name_of};
+ghost use Rattle.sk_line.specs.Triple.{coefficients_name as coefficients_name_of};
 
 use crate::line::{fall_over, line_over, times_count};
 use crate::lookup::{begun, covering_triple};
@@ -54,7 +54,7 @@ fn coefficients_name(sc: u32) -> Line
 
 impl Triples {
     ghost use Rattle.sk_triples.specs.Coefficients.{triples_checks, AreTriplesOf};
-    ghost use Rattle.sk_triples.specs.Line.{covering as covering_of, IsTimeAt, FallsOver, IsFirstFall};
+    ghost use Rattle.sk_line.specs.Line.{covering as covering_of, IsTimeAt, FallsOver, IsFirstFall};
     ghost use Rattle.sk_triples.specs.Kernel.{range_checks, AreKept, AreTriples, HasFall};
 
     /// The triples of the spacecraft with the number -sc, on its clock.

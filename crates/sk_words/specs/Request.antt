@@ -8,9 +8,10 @@ use Rattle.std.specs.Str.Parse.{digits_value}
 use Rattle.clap.specs.Words.{Row}
 use Rattle.sk_words.specs.Words.{option_text, command_text}
 use Rattle.sk_words.specs.declared.tables.Command.{Command}
-use Rattle.sk_words.specs.declared.tables.Command.TheVariants.{Publish, Residuals, Normal, Convert}
+use Rattle.sk_words.specs.declared.tables.Command.TheVariants.{Publish, Residuals, Normal, Convert, Invert}
 use Rattle.sk_words.specs.declared.tables.OptionName.{OptionName}
 use Rattle.sk_words.specs.declared.tables.OptionName.TheVariants as opt
+use Rattle.sk_words.specs.declared.limits.Numbers.{Numbers}
 use Rattle.sk_words.specs.declared.fault.WordsFault.{WordsFault}
 use Rattle.sk_words.specs.declared.fault.WordsFault.TheVariants.{UnknownCommand, NeedOption, OutOfRange}
 
@@ -47,9 +48,10 @@ word_of Publish = codes "publish"
 word_of Residuals = codes "residuals"
 word_of Normal = codes "normal"
 word_of Convert = codes "convert"
+word_of Invert = codes "invert"
 
 abbrev pub all_commands : List Command
-all_commands = Publish ∷ Residuals ∷ Normal ∷ Convert ∷ []
+all_commands = Publish ∷ Residuals ∷ Normal ∷ Convert ∷ Invert ∷ []
 
 -- the options that a command needs, in the order of the option table
 abbrev pub needs : Command → List OptionName
@@ -57,6 +59,7 @@ needs Publish = opt.Kernel ∷ opt.Obs ∷ opt.Sc ∷ []
 needs Residuals = opt.Kernel ∷ opt.Obs ∷ opt.Sc ∷ []
 needs Normal = opt.Kernel ∷ []
 needs Convert = opt.Kernel ∷ opt.Sc ∷ opt.Clock ∷ []
+needs Invert = opt.Kernel ∷ opt.Sc ∷ opt.Time ∷ []
 
 -- the options that a command uses; others that are given are checked for their range alone
 abbrev pub uses : Command → List OptionName
@@ -64,6 +67,7 @@ uses Publish = opt.Leap ∷ opt.Kernel ∷ opt.Obs ∷ opt.Sc ∷ opt.TolNs ∷ 
 uses Residuals = opt.Leap ∷ opt.Kernel ∷ opt.Obs ∷ opt.Sc ∷ []
 uses Normal = opt.Kernel ∷ []
 uses Convert = opt.Leap ∷ opt.Kernel ∷ opt.Sc ∷ opt.Clock ∷ []
+uses Invert = opt.Leap ∷ opt.Kernel ∷ opt.Sc ∷ opt.Time ∷ []
 
 -- ---- ranges
 
@@ -89,26 +93,58 @@ is_id_byte byte = nat_le 33 byte && nat_le byte 126 && not (byte == 44 || byte =
 abbrev pub over_names : List ℕ → List (List ℕ)
 over_names text = slice_split (λ byte. byte == 44) text
 
+-- The one table of numbers: the least that an option takes, the greatest, and what holds where it is not given.
+abbrev between : ℕ → ℕ → Option ℕ → Option Numbers
+between least greatest default = Some (record { least = least; greatest = greatest; default = default })
+
+abbrev pub numbers_of : OptionName → Option Numbers
+numbers_of opt.Sc = between 1 999999999 None
+numbers_of opt.TolNs = between 1 60000000000 (Some 1000000)
+numbers_of opt.RateDecimals = between 1 15 (Some 12)
+numbers_of opt.BandPpm = between 1 100000 (Some 1000)
+numbers_of opt.SlipNs = between 0 60000000000 (Some 1000000)
+numbers_of opt.Hold = between 0 9007199254740991 None
+numbers_of opt.Seed = between 0 4294967295 None
+numbers_of opt.Count = between 1 100000 None
+numbers_of opt.Reject = between 0 100000 (Some 0)
+numbers_of opt.From = between 0 9007199254740991 None
+numbers_of opt.To = between 0 9007199254740991 None
+numbers_of opt.Leap = None
+numbers_of opt.Kernel = None
+numbers_of opt.Obs = None
+numbers_of opt.Id = None
+numbers_of opt.Clock = None
+numbers_of opt.Time = None
+numbers_of opt.New = None
+numbers_of opt.Over = None
+
+-- what holds where an option is not given; nothing, 0
+abbrev pub default_of : OptionName → ℕ
+default_of name = unwrap_or (option_and_then (λ numbers. numbers.default) (numbers_of name)) 0
+
+abbrev pub is_numbered : OptionName → List ℕ → Bool
+is_numbered name text = option_map_or (λ numbers. is_number_in numbers.least numbers.greatest text) (numbers_of name) false
+
 abbrev pub is_in_range : OptionName → List ℕ → Bool
 is_in_range opt.Leap text = is_file_name text
 is_in_range opt.Kernel text = is_file_name text
 is_in_range opt.Obs text = is_file_name text
-is_in_range opt.Sc text = is_number_in 1 999999999 text
-is_in_range opt.TolNs text = is_number_in 1 60000000000 text
-is_in_range opt.RateDecimals text = is_number_in 1 15 text
-is_in_range opt.BandPpm text = is_number_in 1 100000 text
-is_in_range opt.SlipNs text = is_number_in 0 60000000000 text
-is_in_range opt.Hold text = is_number_in 0 9007199254740991 text
+is_in_range opt.Sc text = is_numbered opt.Sc text
+is_in_range opt.TolNs text = is_numbered opt.TolNs text
+is_in_range opt.RateDecimals text = is_numbered opt.RateDecimals text
+is_in_range opt.BandPpm text = is_numbered opt.BandPpm text
+is_in_range opt.SlipNs text = is_numbered opt.SlipNs text
+is_in_range opt.Hold text = is_numbered opt.Hold text
 is_in_range opt.Id text = nat_le 1 (length text) && (nat_le (length text) 79 && list_all is_id_byte text)
 is_in_range opt.Clock text = true
-is_in_range opt.Seed text = is_number_in 0 4294967295 text
-is_in_range opt.Count text = is_number_in 1 100000 text
-is_in_range opt.Reject text = is_number_in 0 100000 text
+is_in_range opt.Seed text = is_numbered opt.Seed text
+is_in_range opt.Count text = is_numbered opt.Count text
+is_in_range opt.Reject text = is_numbered opt.Reject text
 is_in_range opt.Time text = true
 is_in_range opt.New text = is_file_name text
 is_in_range opt.Over text = list_all is_file_name (over_names text) && nat_le (length (over_names text)) 16
-is_in_range opt.From text = is_number_in 0 9007199254740991 text
-is_in_range opt.To text = is_number_in 0 9007199254740991 text
+is_in_range opt.From text = is_numbered opt.From text
+is_in_range opt.To text = is_numbered opt.To text
 
 -- the texts of the option are the numbers from low to high
 abbrev pub HoldsNumbers : OptionName → ℕ → ℕ → Type 0
@@ -116,12 +152,21 @@ HoldsNumbers name low high = (text : List ℕ) → is_in_range name text ≡ is_
 
 -- ---- the words
 
--- the texts of the options that are given
+-- the texts of the options that are given, as they are meant
 abbrev pub Options : Type 0
 Options = OptionName → Option (List ℕ)
 
+-- the text without one minus sign before it
+abbrev pub without_sign : List ℕ → List ℕ
+without_sign [] = []
+without_sign (byte ∷ rest) = if byte == 45 then rest else byte ∷ rest
+
+-- What the text of an option means. NAIF counts spacecraft from -1 down, so their number may have its minus sign.
+abbrev pub meant : OptionName → List ℕ → List ℕ
+meant name text = if bytes_eq (name_of name) (name_of opt.Sc) then without_sign text else text
+
 abbrev pub options_of : List Row → Options
-options_of rows name = option_text (name_of name) rows
+options_of rows name = option_map (meant name) (option_text (name_of name) rows)
 
 abbrev pub command_of : List Row → Option Command
 command_of rows = option_and_then (λ word. find (λ c. bytes_eq (word_of c) word) all_commands) (command_text rows)

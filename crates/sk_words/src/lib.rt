@@ -1,7 +1,12 @@
 //! The words of the command line: what they ask for, or why they are refused.
 #![tactic(auto)]
 
+mod about;
 mod fault;
+mod help;
+#[cfg(test)]
+mod help_tests;
+mod limits;
 mod matched;
 mod ranges;
 mod request;
@@ -9,7 +14,10 @@ mod settings;
 mod tables;
 #[cfg(test)]
 mod tests;
+mod topic;
 
 pub use fault::{WordsFault, WordsStop};
+pub use help::page;
 pub use request::{Request, requested};
 pub use tables::{Command, OptionName};
+pub use topic::{Topic, topic_of};

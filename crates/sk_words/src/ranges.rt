@@ -3,7 +3,7 @@
 ghost use Rattle.std.specs.Prelude.{◌≡◌, length};
 ghost use Rattle.std.specs.Char.{is_ascii_digit};
 ghost use Rattle.std.specs.List.{list_all};
-ghost use Rattle.sk_words.specs.Request.{is_number as is_number_text, is_number_in as is_number_within, is_file_name as is_name_text, is_id_byte as is_id_code, is_in_range as is_within_range, number_of as number_of_text, over_names};
+ghost use Rattle.sk_words.specs.Request.{is_number as is_number_text, is_number_in as is_number_within, is_numbered as is_numbered_by, is_file_name as is_name_text, is_id_byte as is_id_code, is_in_range as is_within_range, number_of as number_of_text, over_names, meant as meant_by, without_sign as unsigned};
 
 use crate::tables::OptionName;
 
@@ -40,6 +40,16 @@ fn is_number_in(low: u64, high: u64, text: &str) -> bool
 {
     match number_of(text) {
         Some(number) => low <= number && number <= high,
+        None => false,
+    }
+}
+
+/// The text is one of the numbers that the option takes.
+fn is_numbered(name: OptionName, text: &str) -> bool
+    ensures { result ≡ is_numbered_by name text.now }
+{
+    match name.numbers() {
+        Some(numbers) => is_number_in(numbers.least, numbers.greatest, text),
         None => false,
     }
 }
@@ -93,6 +103,27 @@ fn are_file_names(text: &str) -> bool
     are_named(text) && count_names(text) <= 16
 }
 
+/// The text without one minus sign before it.
+fn without_sign(text: &str) -> &str
+    ensures { result.now ≡ unsigned text.now }
+{
+    match text.strip_prefix('-') {
+        Some(number) => number,
+        None => text,
+    }
+}
+
+/// What the text of an option means: the number of a spacecraft may have its minus sign.
+pub fn meant<'a>(name: OptionName, text: &'a str) -> &'a str
+    ensures { result.now ≡ meant_by name text.now }
+{
+    if name.word() == OptionName::Sc.word() {
+        without_sign(text)
+    } else {
+        text
+    }
+}
+
 /// The text is in the range of the option.
 pub fn is_in_range(name: OptionName, text: &str) -> bool
     ensures { result ≡ is_within_range name text.now }
@@ -101,21 +132,21 @@ pub fn is_in_range(name: OptionName, text: &str) -> bool
         OptionName::Leap => is_file_name(text),
         OptionName::Kernel => is_file_name(text),
         OptionName::Obs => is_file_name(text),
-        OptionName::Sc => is_number_in(1, 999_999_999, text),
-        OptionName::TolNs => is_number_in(1, 60_000_000_000, text),
-        OptionName::RateDecimals => is_number_in(1, 15, text),
-        OptionName::BandPpm => is_number_in(1, 100_000, text),
-        OptionName::SlipNs => is_number_in(0, 60_000_000_000, text),
-        OptionName::Hold => is_number_in(0, 9_007_199_254_740_991, text),
+        OptionName::Sc => is_numbered(name, text),
+        OptionName::TolNs => is_numbered(name, text),
+        OptionName::RateDecimals => is_numbered(name, text),
+        OptionName::BandPpm => is_numbered(name, text),
+        OptionName::SlipNs => is_numbered(name, text),
+        OptionName::Hold => is_numbered(name, text),
         OptionName::Id => is_id(text.as_bytes()),
         OptionName::Clock => true,
-        OptionName::Seed => is_number_in(0, 4_294_967_295, text),
-        OptionName::Count => is_number_in(1, 100_000, text),
-        OptionName::Reject => is_number_in(0, 100_000, text),
+        OptionName::Seed => is_numbered(name, text),
+        OptionName::Count => is_numbered(name, text),
+        OptionName::Reject => is_numbered(name, text),
         OptionName::Time => true,
         OptionName::New => is_file_name(text),
         OptionName::Over => are_file_names(text),
-        OptionName::From => is_number_in(0, 9_007_199_254_740_991, text),
-        OptionName::To => is_number_in(0, 9_007_199_254_740_991, text),
+        OptionName::From => is_numbered(name, text),
+        OptionName::To => is_numbered(name, text),
     }
 }

@@ -3,14 +3,15 @@
 ghost use Rattle.std.specs.Prelude.{◌≡◌, Err, false, find, map, option_map, option_and_then, IfOk, IfSome, IsTrue};
 ghost use Rattle.std.specs.Str.{bytes_eq};
 ghost use Rattle.std.specs.Int.{IsInRange};
-ghost use Rattle.sk_words.specs.Words.{is_taken, command_text};
-ghost use Rattle.sk_words.specs.Request.{all_commands, command_of as command_by, first_missing as missing_by, first_out_of_range as out_of_range_by, is_in_range as is_within_range, is_out_of_range as is_outside, options_fault as fault_by, number_of as number_of_text, number_or, options_of, text_or, used, word_of};
+ghost use Rattle.sk_words.specs.Words.{is_taken, command_text, option_text};
+ghost use Rattle.sk_words.specs.Request.{all_commands, command_of as command_by, first_missing as missing_by, first_out_of_range as out_of_range_by, is_in_range as is_within_range, is_out_of_range as is_outside, name_of, options_fault as fault_by, number_of as number_of_text, number_or, options_of, text_or, used, word_of};
 ghost use Rattle.sk_words.specs.Asked.{rows_in, options_in, AsksFor, MayAsk, NeedsNumber};
 
 use crate::fault::{WordsFault, WordsStop};
 use crate::matched::{MatchStop, matches_in};
-use crate::ranges::{is_in_range, number_of};
+use crate::ranges::{is_in_range, meant, number_of};
 use crate::tables::{Command, OptionName};
+use crate::topic::command_by_word;
 use clap::ArgMatches;
 use std::alloc::Global;
 use std::marker::Model;
@@ -32,11 +33,21 @@ impl<'a> Model for Request<'a> {
     ghost invariant = { λ r. AsksFor (rows_in r.matches) r.command };
 }
 
-/// The text of an option.
+/// The text that the words give an option.
+fn given_text<'a>(matches: &ArgMatches<'a>, name: OptionName) -> Option<&'a str>
+    ensures { option_map (λ s. s.now) result ≡ option_text (name_of name) (rows_in matches.now) }
+{
+    matches.get_str(name.word())
+}
+
+/// The text of an option, as it is meant.
 fn text_of<'a>(matches: &ArgMatches<'a>, name: OptionName) -> Option<&'a str>
     ensures { option_map (λ s. s.now) result ≡ options_of (rows_in matches.now) name }
 {
-    matches.get_str(name.word())
+    match given_text(matches, name) {
+        Some(text) => Some(meant(name, text)),
+        None => None,
+    }
 }
 
 /// The word that stands for the command.
@@ -44,16 +55,6 @@ fn command_word<'a>(matches: &ArgMatches<'a>) -> Option<&'a str>
     ensures { option_map (λ s. s.now) result ≡ command_text (rows_in matches.now) }
 {
     matches.get_str("command")
-}
-
-/// The command of a word.
-fn command_by_word(word: &str) -> Option<Command>
-    ensures { result ≡ find (λ command. bytes_eq (word_of command) word.now) all_commands }
-{
-    Command::all()
-        .iter()
-        .copied()
-        .find(|command| command.word() == word)
 }
 
 /// The command of the words.

@@ -2,7 +2,7 @@
 
 ghost use Rattle.std.specs.Prelude.{◌≡◌, ◌≤◌, ℕ, option_map, IfSome};
 ghost use Rattle.std.specs.Int.{IsInRange};
-ghost use Rattle.sk_words.specs.Request.{HoldsNumbers, number_or};
+ghost use Rattle.sk_words.specs.Request.{HoldsNumbers, default_of, number_or};
 ghost use Rattle.sk_words.specs.Asked.{options_in};
 
 use crate::ranges::number_of;
@@ -10,11 +10,12 @@ use crate::request::Request;
 use crate::tables::OptionName;
 
 impl<'a> Request<'a> {
-    /// The number of an option; `default` where the command has none.
-    fn number(&self, name: OptionName, default: u64) -> u64
-        ensures number { (low high : ℕ) → HoldsNumbers name low high → result ≡ number_or default name (options_in self.now) }
-        ensures range { (low high : ℕ) → HoldsNumbers name low high → IsInRange low high default → IsInRange low high result }
+    /// The number of an option; its default where the command has none.
+    fn number(&self, name: OptionName) -> u64
+        ensures number { (low high : ℕ) → HoldsNumbers name low high → result ≡ number_or (default_of name) name (options_in self.now) }
+        ensures range { (low high : ℕ) → HoldsNumbers name low high → IsInRange low high (default_of name) → IsInRange low high result }
     {
+        let default = name.default_number();
         match self.text(name) {
             Some(text) => number_of(text).unwrap_or(default),
             None => default,
@@ -26,7 +27,7 @@ impl<'a> Request<'a> {
         ensures number { result ≡ number_or 1_000_000 OptionName.TolNs (options_in self.now) }
         ensures range { IsInRange 1 60_000_000_000 result }
     {
-        self.number(OptionName::TolNs, 1_000_000)
+        self.number(OptionName::TolNs)
     }
 
     /// The decimals of a rate.
@@ -34,7 +35,7 @@ impl<'a> Request<'a> {
         ensures number { result ≡ number_or 12 OptionName.RateDecimals (options_in self.now) }
         ensures range { IsInRange 1 15 result }
     {
-        self.number(OptionName::RateDecimals, 12) as u32
+        self.number(OptionName::RateDecimals) as u32
     }
 
     /// The band of the rates, in parts of a million.
@@ -42,7 +43,7 @@ impl<'a> Request<'a> {
         ensures number { result ≡ number_or 1000 OptionName.BandPpm (options_in self.now) }
         ensures range { IsInRange 1 100_000 result }
     {
-        self.number(OptionName::BandPpm, 1000) as u32
+        self.number(OptionName::BandPpm) as u32
     }
 
     /// The slip, in nanoseconds.
@@ -50,7 +51,7 @@ impl<'a> Request<'a> {
         ensures number { result ≡ number_or 1_000_000 OptionName.SlipNs (options_in self.now) }
         ensures range { result ≤ 60_000_000_000 }
     {
-        self.number(OptionName::SlipNs, 1_000_000)
+        self.number(OptionName::SlipNs)
     }
 
     /// The hold, in encoded ticks, where it is given.
@@ -59,7 +60,7 @@ impl<'a> Request<'a> {
         ensures range { IfSome result (λ hold. hold ≤ 9_007_199_254_740_991) }
     {
         match self.text(OptionName::Hold) {
-            Some(_) => Some(self.number(OptionName::Hold, 0)),
+            Some(_) => Some(self.number(OptionName::Hold)),
             None => None,
         }
     }
@@ -69,6 +70,6 @@ impl<'a> Request<'a> {
         ensures number { result ≡ number_or 0 OptionName.Reject (options_in self.now) }
         ensures range { result ≤ 100_000 }
     {
-        self.number(OptionName::Reject, 0) as u32
+        self.number(OptionName::Reject) as u32
     }
 }

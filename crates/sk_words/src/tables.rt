@@ -36,13 +36,15 @@ pub enum Command {
     Residuals,
     Normal,
     Convert,
+    Invert,
 }
 
-static COMMANDS: [Command; 4] = [
+static COMMANDS: [Command; 5] = [
     Command::Publish,
     Command::Residuals,
     Command::Normal,
     Command::Convert,
+    Command::Invert,
 ];
 
 static OPTIONS: [OptionName; 19] = [
@@ -105,6 +107,15 @@ static CONVERT_USES: [OptionName; 4] = [
     OptionName::Clock,
 ];
 
+static INVERT_NEEDS: [OptionName; 3] = [OptionName::Kernel, OptionName::Sc, OptionName::Time];
+
+static INVERT_USES: [OptionName; 4] = [
+    OptionName::Leap,
+    OptionName::Kernel,
+    OptionName::Sc,
+    OptionName::Time,
+];
+
 impl OptionName {
     /// All options, in the order of their table.
     pub fn all() -> &'static [OptionName]
@@ -158,6 +169,7 @@ impl Command {
             Command::Residuals => "residuals",
             Command::Normal => "normal",
             Command::Convert => "convert",
+            Command::Invert => "invert",
         }
     }
 
@@ -170,6 +182,7 @@ impl Command {
             Command::Residuals => RESIDUALS_NEEDS.as_slice(),
             Command::Normal => NORMAL_NEEDS.as_slice(),
             Command::Convert => CONVERT_NEEDS.as_slice(),
+            Command::Invert => INVERT_NEEDS.as_slice(),
         }
     }
 
@@ -182,6 +195,7 @@ impl Command {
             Command::Residuals => RESIDUALS_USES.as_slice(),
             Command::Normal => NORMAL_USES.as_slice(),
             Command::Convert => CONVERT_USES.as_slice(),
+            Command::Invert => INVERT_USES.as_slice(),
         }
     }
 

@@ -32,7 +32,7 @@ fn words_are_one_command_with_options(rt: HostRuntime) -> Result<(), Fail> {
 #[test]
 fn other_words_are_not_taken(rt: HostRuntime) {
     let alloc = rt.alloc();
-    let table: [&[&str]; 8] = [
+    let table: [&[&str]; 9] = [
         &["station"],
         &["station", "normal", "--kernel=k", "--kernel=k"],
         &["station", "normal", "more"],
@@ -40,6 +40,7 @@ fn other_words_are_not_taken(rt: HostRuntime) {
         &["station", "--version"],
         &["station", "normal", "--unknown=1"],
         &["station", "invert", "--time", "-1"],
+        &["station", "normal", "--sc", "-99"],
         &["station", "normal", "--kernel"],
     ];
     for (place, words) in table.iter().enumerate() {
@@ -75,6 +76,31 @@ fn words_ask_for_a_command_with_the_options_that_it_uses(rt: HostRuntime) -> Res
     Ok(())
 }
 
+#[test]
+fn the_number_of_a_spacecraft_may_have_its_sign(rt: HostRuntime) -> Result<(), Fail> {
+    let alloc = rt.alloc();
+    let table: [(&str, &str); 6] = [
+        ("--sc=99", "99"),
+        ("--sc=-99", "99"),
+        ("--sc=-1", "1"),
+        ("--sc=-999999999", "999999999"),
+        ("--sc=-0000000000000099", "0000000000000099"),
+        ("--sc=0000000000000099", "0000000000000099"),
+    ];
+    for (place, (word, number)) in table.iter().enumerate() {
+        let words = ["station", "residuals", "--kernel=k", "--obs=o", *word];
+        let request = match requested(alloc, words.as_slice()) {
+            Ok(request) => request,
+            Err(_) => return Err("refused".into()),
+        };
+        assert!(rt;
+            request.text_or_empty(OptionName::Sc) == *number,
+            "at {place}"
+        );
+    }
+    Ok(())
+}
+
 /// The words are refused, with an option's name where it is refused.
 fn refusal(alloc: Global, words: &[&str]) -> (&'static str, &'static str) {
     match requested(alloc, words) {
@@ -90,7 +116,7 @@ fn refusal(alloc: Global, words: &[&str]) -> (&'static str, &'static str) {
 #[test]
 fn words_are_judged_in_the_order_of_the_tables(rt: HostRuntime) {
     let alloc = rt.alloc();
-    let table: [(&[&str], &str, &str); 9] = [
+    let table: [(&[&str], &str, &str); 11] = [
         (&["station", "normal", "--kernel="], "OutOfRange", "kernel"),
         (&["station", "normal"], "NeedOption", "kernel"),
         (&["station", "frob", "--kernel=k"], "UnknownCommand", ""),
@@ -122,6 +148,16 @@ fn words_are_judged_in_the_order_of_the_tables(rt: HostRuntime) {
         ),
         (
             &["station", "normal", "--kernel=k", "--hold=0"],
+            "Taken",
+            "",
+        ),
+        (
+            &["station", "invert", "--sc=99", "--kernel=k"],
+            "NeedOption",
+            "time",
+        ),
+        (
+            &["station", "invert", "--time=", "--sc=99", "--kernel=k"],
             "Taken",
             "",
         ),
@@ -180,7 +216,7 @@ fn publish_takes_what_is_in_range(rt: HostRuntime) {
 #[test]
 fn publish_refuses_what_is_out_of_range(rt: HostRuntime) {
     let alloc = rt.alloc();
-    let refused: [(&str, &str); 26] = [
+    let refused: [(&str, &str); 29] = [
         ("--leap=", "leap"),
         ("--tol-ns=0", "tol-ns"),
         ("--tol-ns=60000000001", "tol-ns"),
@@ -191,6 +227,9 @@ fn publish_refuses_what_is_out_of_range(rt: HostRuntime) {
         ("--band-ppm=0", "band-ppm"),
         ("--band-ppm=100001", "band-ppm"),
         ("--slip-ns=-1", "slip-ns"),
+        ("--tol-ns=-1", "tol-ns"),
+        ("--hold=-0", "hold"),
+        ("--reject=-1", "reject"),
         ("--slip-ns=60000000001", "slip-ns"),
         ("--hold=9007199254740992", "hold"),
         ("--hold=+1", "hold"),
@@ -215,6 +254,32 @@ fn publish_refuses_what_is_out_of_range(rt: HostRuntime) {
     for (place, (word, name)) in refused.iter().enumerate() {
         assert!(rt;
             refusal_of_publish(alloc, word) == ("OutOfRange", *name),
+            "at {place}"
+        );
+    }
+}
+
+#[test]
+fn other_numbers_of_a_spacecraft_are_refused(rt: HostRuntime) {
+    let alloc = rt.alloc();
+    let refused: [&str; 11] = [
+        "--sc=",
+        "--sc=-",
+        "--sc=0",
+        "--sc=-0",
+        "--sc=--99",
+        "--sc=+99",
+        "--sc=99-",
+        "--sc=- 99",
+        "--sc=1000000000",
+        "--sc=-1000000000",
+        // Seventeen digits.
+        "--sc=-00000000000000099",
+    ];
+    for (place, word) in refused.iter().enumerate() {
+        let words = ["station", "normal", "--kernel=k", *word];
+        assert!(rt;
+            refusal(alloc, words.as_slice()) == ("OutOfRange", "sc"),
             "at {place}"
         );
     }

@@ -1,5 +1,5 @@
 -- What a publication adds to a kernel: its triples, and its kernel ID.
-use Rattle.std.proofs.Common.{rules, Ok, Some, subst, ◌≡◌, ℕ, ◌*◌, ◌^◌, ◌<◌, ◌≤◌, List, [], ◌∷◌, ◌++◌, length, drop, refl, sym, ap, ◌∙◌, arith, true, false, Bool, ◌&&◌, leb}
+use Rattle.std.proofs.Common.{rules, Ok, Some, subst, ◌≡◌, ℕ, ◌≤◌, List, ◌++◌, length, drop, refl, sym, ap, ◌∙◌, arith, true, false, Bool, ◌&&◌, leb}
 use Rattle.std.proofs.lemmas.Bool.Decides.{nat_tests}
 use Rattle.std.specs.Prelude.{codes, IsTrue}
 use Rattle.std.specs.List.{list_all}
@@ -7,10 +7,10 @@ use Rattle.sk_decimal.proofs.Forms.{list_all-weaker}
 use Rattle.sk_grammar.specs.Document.{IsDate, is_run_byte, is_data_byte}
 use Rattle.sk_grammar.proofs.Lists.{drop-length-append, differs}
 use Rattle.sk_grammar.specs.Canonical.{canonical_text}
-use Rattle.sk_clock.specs.Row.{RowView}
-use Rattle.sk_triples.specs.Terms.{TripleView}
+use Rattle.sk_publishing.specs.Row.{RowView}
+use Rattle.sk_line.specs.Triple.{TripleView}
 use Rattle.sk_triples.specs.Kernel.{TriplesView}
-use Rattle.sk_triples.specs.Published.{appended, published_block}
+use Rattle.sk_publishing.specs.Published.{appended, published_block}
 use Rattle.sk_fit.specs.declared.chain.Chain.{Chain}
 use Rattle.sk_fit.specs.Given.{new_triples_of}
 use Rattle.sk_report.specs.Report.{table_of}

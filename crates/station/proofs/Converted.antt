@@ -1,6 +1,6 @@
 -- The tick of a clock word, its time and its UTC.
-use Rattle.std.proofs.Common.{◌≡◌, ◌⊎◌, ℕ, ◌+◌, ◌*◌, ◌^◌, List, [], ◌∷◌, ◌++◌, Result, Option, Some, None, Ok, Err, refl, ap, subst, sym, inl, inr, ◌∙◌, append_assoc}
-use Rattle.std.specs.Prelude.{ℤ, pos, neg_ℤ, ◌≤ℤ◌, decimal, IfOk}
+use Rattle.std.proofs.Common.{◌≡◌, ℕ, ◌+◌, ◌*◌, ◌^◌, List, [], ◌∷◌, ◌++◌, Result, Option, Some, None, Ok, Err, refl, ap, subst, inl, inr, ◌∙◌, append_assoc}
+use Rattle.std.specs.Prelude.{ℤ, decimal, IfOk}
 use Rattle.std.specs.List.{AllZip}
 use Rattle.sk_checks.specs.Checks.{Check, ◌⇒◌, carried, Passes, NoneRefuses, FirstRefuses}
 use Rattle.sk_decimal.specs.Fixed.{fixed_text}
@@ -12,17 +12,17 @@ use Rattle.sk_leap.specs.Kernel.{Entry, IsLeapDate}
 use Rattle.sk_leap.specs.UtcText.{IsPrintedUtc}
 use Rattle.sk_leap.proofs.LeapDays.{leap_day_bounds}
 use Rattle.sk_clock.specs.Clock.{ClockView, clock_text}
-use Rattle.sk_obs.specs.declared.fault.ClockWordStop.{ClockWordStop}
 use Rattle.sk_obs.specs.declared.fault.ClockWordStop.TheVariants.{Refused}
 use Rattle.sk_obs.specs.Words.{word_checks, IsClockWord}
-use Rattle.sk_triples.specs.Terms.{TripleView}
-use Rattle.sk_triples.specs.Line.{line_over, covering}
+use Rattle.sk_line.specs.Triple.{TripleView}
+use Rattle.sk_line.specs.Line.{line_over, covering}
 use Rattle.sk_triples.specs.Kernel.{AreOf, range_checks}
 use Rattle.sk_report.specs.declared.times.Timed.{Timed}
 use Rattle.sk_report.specs.Line.{IsTimed}
 use Rattle.sk_words.specs.Request.{Options}
 use Rattle.sk_words.specs.declared.tables.OptionName.TheVariants as opt
-use Rattle.station.specs.Files.{Source, KernelRead, leap_named, leap_file}
+use Rattle.station.specs.Seen.{Source}
+use Rattle.station.specs.Files.{KernelRead, leap_named, leap_file}
 use Rattle.station.specs.Output.{line_of, time_by}
 use Rattle.station.specs.Time.{IsDated, IsUtcWord}
 use Rattle.station.specs.Outcome.{clock_tick, converted}

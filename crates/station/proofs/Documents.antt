@@ -11,8 +11,8 @@ use Rattle.sk_grammar.specs.Document.{ItemView, BlockView, DocView, IsDate, IsNa
 use Rattle.sk_grammar.specs.Spelling.{Spells}
 use Rattle.sk_grammar.specs.Valid.{AreWhole}
 use Rattle.sk_grammar.proofs.Validity.{whole_parts, whole_line, split_one, texts_valid, blocks_valid}
-use Rattle.sk_triples.specs.Terms.{TripleView}
-use Rattle.sk_triples.specs.Published.{id_items, coefficient_items, triple_values, published_block, appended}
+use Rattle.sk_line.specs.Triple.{TripleView}
+use Rattle.sk_publishing.specs.Published.{id_items, coefficient_items, triple_values, published_block, appended}
 use Rattle.sk_publication.specs.Publication.{HasNumbers}
 use Rattle.sk_publication.proofs.Coefficients.{item_of, item_valid, one_item}
 

@@ -2,11 +2,12 @@ pub mod Moves
 pub mod Determined
 pub mod OneAnswer
 pub mod OneRecord
+pub mod LeapTables
+pub mod OneUtc
 pub mod Complete
 pub mod Sizes
-pub mod Tails
 pub mod Refusals
-pub mod Opened
+pub mod Follows
 pub mod Converted
 pub mod NewTriples
 pub mod Additions
@@ -19,3 +20,9 @@ pub mod Settings
 pub mod SameClock
 pub mod Published
 pub mod OneText
+pub mod TimeWords
+pub mod Inverted
+pub mod Telling
+pub mod Timed
+pub mod Exactly
+pub mod Uses

@@ -3,10 +3,11 @@ use Rattle.std.proofs.Common.{◌≡◌, ◌⊎◌, ℕ, zero, suc, ◌-◌, ◌
 use Rattle.std.proofs.lemmas.Int.{ints}
 use Rattle.std.proofs.lemmas.Option.{none-some, same_Some}
 use Rattle.std.specs.Prelude.{ℤ, pos, ◌*ℤ◌, ◌-ℤ◌, ◌≤ℤ◌, ◌<ℤ◌, slice_get}
-use Rattle.sk_triples.specs.Terms.{Sight, TripleView, Terms}
-use Rattle.sk_triples.specs.Line.{line_over, FallsOver}
-use Rattle.sk_triples.specs.Chain.{SegmentView, EachJoined, IsChain, new_triples}
-use Rattle.sk_triples.proofs.NewKernel.{triple_of, no_fall_law}
+use Rattle.sk_publishing.specs.Terms.{Sight, Terms}
+use Rattle.sk_line.specs.Triple.{TripleView}
+use Rattle.sk_line.specs.Line.{line_over, FallsOver}
+use Rattle.sk_publishing.specs.Chain.{SegmentView, EachJoined, IsChain, new_triples}
+use Rattle.sk_publishing.proofs.NewKernel.{triple_of, no_fall_law}
 
 -- time does not fall from one triple to the next
 abbrev Stands : ℕ → TripleView → TripleView → Type 0

@@ -3,14 +3,16 @@ use Rattle.std.proofs.Common.{rules, ◌≡◌, ◌⊎◌, ℕ, suc, ◌+◌, �
 use Rattle.std.proofs.lemmas.Bool.{cases_lt, leb-true}
 use Rattle.std.specs.Prelude.{nat_lt, max}
 use Rattle.std.specs.List.{AllByRecursion, AllPairs}
-use Rattle.sk_clock.specs.Row.{RowView, AreRows}
-use Rattle.sk_triples.specs.Terms.{Sight, TripleView, Terms, sights, sights_from, partition_at, hold_of, seam}
-use Rattle.sk_triples.specs.Chain.{SegmentView, IsChain, new_triples}
-use Rattle.sk_triples.specs.Kept.{is_new, Sorts}
+use Rattle.sk_publishing.specs.Row.{RowView, AreRows}
+use Rattle.sk_publishing.specs.Terms.{Sight, Terms, sights, sights_from, partition_at, hold_of, seam}
+use Rattle.sk_line.specs.Triple.{TripleView}
+use Rattle.sk_publishing.specs.Chain.{SegmentView, IsChain, new_triples}
+use Rattle.sk_publishing.specs.Kept.{is_new, Sorts}
 use Rattle.sk_triples.specs.Kernel.{Rise}
-use Rattle.sk_triples.specs.Laws.{SightsRise, TriplesRise, IsWithinTolerance}
-use Rattle.sk_triples.proofs.Lists.{all_map}
-use Rattle.sk_triples.proofs.NewKernel.{tolerance_law}
+use Rattle.sk_publishing.specs.Laws.{SightsRise, TriplesRise}
+use Rattle.sk_publishing.specs.Meets.{IsWithinTolerance}
+use Rattle.sk_line.proofs.Lists.{all_map}
+use Rattle.sk_publishing.proofs.NewKernel.{tolerance_law}
 use Rattle.sk_fit.proofs.Ranges.{partition_rises}
 use Rattle.sk_fit.proofs.Kept.{kept_all, kept_ordered}
 
@@ -20,7 +22,7 @@ later_ticks : (tick place : ℕ) (rows : List RowView) → ((k : ℕ) (d : RowVi
 later_ticks tick place [] h = tt
 later_ticks tick place (row ∷ rows) h = (h 0 row (omega arith), later_ticks tick (place + 1) rows (λ k d within. h (suc k) d (omega (arith, within))))
 
-sights_rise : (place : ℕ) (rows : List RowView) → AllPairs (λ a b. a.tick < b.tick) rows → SightsRise (sights_from place rows)
+pub sights_rise : (place : ℕ) (rows : List RowView) → AllPairs (λ a b. a.tick < b.tick) rows → SightsRise (sights_from place rows)
 sights_rise place [] h = tt
 sights_rise place (row ∷ rows) h = (
   later_ticks row.tick (place + 1) rows (λ k d within. h 0 (suc k) d (omega arith) (omega (arith, within))),
@@ -38,7 +40,7 @@ behind_first : (a : TripleView) (ts : List TripleView) → Rise (a ∷ ts) → R
 behind_first a [] rise = tt
 behind_first a (b ∷ ts) rise = rise.2
 
-triples_rise : (ts : List TripleView) → Rise ts → TriplesRise ts
+pub triples_rise : (ts : List TripleView) → Rise ts → TriplesRise ts
 triples_rise [] rise = tt
 triples_rise (a ∷ ts) rise = (later_triples a ts rise, triples_rise ts (behind_first a ts rise))
 

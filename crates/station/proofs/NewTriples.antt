@@ -1,10 +1,11 @@
 -- The new triples of a publication.
 use Rattle.std.proofs.Common.{◌≡◌, ℕ, List, [], ◌∷◌, map, drop, refl, sym, ap, ◌∙◌}
 use Rattle.std.specs.Prelude.{flat_map}
-use Rattle.sk_triples.specs.Terms.{Sight, TripleView}
-use Rattle.sk_triples.specs.Chain.{SegmentView, new_triples}
-use Rattle.sk_triples.specs.Input.{Input}
-use Rattle.sk_triples.proofs.NewKernel.{triple_of}
+use Rattle.sk_publishing.specs.Terms.{Sight}
+use Rattle.sk_line.specs.Triple.{TripleView}
+use Rattle.sk_publishing.specs.Chain.{SegmentView, new_triples}
+use Rattle.sk_publishing.specs.Input.{Input}
+use Rattle.sk_publishing.proofs.NewKernel.{triple_of}
 use Rattle.sk_fit.specs.declared.chain.Chain.{Chain}
 use Rattle.sk_fit.specs.declared.chain.Segment.{Segment}
 use Rattle.sk_fit.specs.Given.{segment_view, segments_of, new_triples_of}

@@ -1,9 +1,9 @@
 -- What the calls on documents and variables answer is their only answer.
-use Rattle.std.proofs.Common.{◌≡◌, ◌⊎◌, ℕ, ℤ, List, [], ◌∷◌, ◌++◌, map, Option, Some, None, Result, Ok, Err, refl, sym, ap, subst, ◌∙◌, inl, inr}
+use Rattle.std.proofs.Common.{◌≡◌, ℕ, List, [], ◌∷◌, map, Some, None, Result, Ok, Err, refl, sym, ap, ◌∙◌, inl, inr}
 use Rattle.std.specs.Prelude.{pos, unwrap_or}
 use Rattle.std.specs.List.{AllZip}
 use Rattle.std.proofs.lemmas.Option.{same_Some, none-some}
-use Rattle.sk_checks.specs.Checks.{Check, ◌⇒◌, carried, FirstRefuses}
+use Rattle.sk_checks.specs.Checks.{◌⇒◌, carried, FirstRefuses}
 use Rattle.sk_checks.proofs.ChecksLemmas.{AreSingle, plain-single, carried-single, FirstRefuses-one}
 use Rattle.sk_decimal.specs.Number.{DecimalView}
 use Rattle.sk_grammar.specs.declared.fault.GrammarFault.{GrammarFault}
@@ -12,7 +12,7 @@ use Rattle.sk_grammar.specs.declared.fault.Reason.{Reason}
 use Rattle.sk_grammar.specs.declared.value.Value.TheVariants.{Number}
 use Rattle.sk_grammar.specs.Lines.{lines}
 use Rattle.sk_grammar.specs.Document.{DocView}
-use Rattle.sk_grammar.specs.Variables.{VariableView, items_of, variables_of, values_at, whole, IsMixedAppend}
+use Rattle.sk_grammar.specs.Variables.{VariableView, items_of, variables_of, values_at, IsMixedAppend}
 use Rattle.sk_grammar.proofs.AllRead.{one_document}
 use Rattle.sk_grammar.proofs.Judged.{one_refusal, never_both}
 use Rattle.sk_pool.specs.declared.pool.PoolFault.TheVariants.{AppendMixed}
@@ -25,21 +25,19 @@ use Rattle.sk_clock.specs.declared.partition.Partition.{Partition}
 use Rattle.sk_clock.specs.Clock.{ClockView, total}
 use Rattle.sk_clock.specs.Kernel.{clock_checks, IsClockOf, name_of}
 use Rattle.sk_clock.proofs.KernelLemmas.{same_numbers, same_number}
-use Rattle.sk_clock.specs.Row.{RowView}
-use Rattle.sk_triples.specs.Terms.{TripleView}
+use Rattle.sk_publishing.specs.Row.{RowView}
+use Rattle.sk_line.specs.Triple.{TripleView}
 use Rattle.sk_triples.specs.Kernel.{TriplesView, range_checks}
+use Rattle.sk_triples.proofs.RowTimes.{time_one}
 use Rattle.sk_triples.specs.Coefficients.{triples_checks, AreTriplesOf, IsTripleOf, Row, row_checks, rows_of, values_for}
-use Rattle.sk_triples.specs.declared.triple.RangeFault.{RangeFault}
 use Rattle.sk_report.specs.Report.{table_checks}
-use Rattle.sk_report.specs.declared.fault.ReportFault.{ReportFault}
 use Rattle.sk_report.specs.declared.fault.ReportFault.TheVariants.{Range}
-use Rattle.sk_words.specs.declared.fault.WordsFault.{WordsFault}
 use Rattle.sk_words.specs.declared.tables.Command.{Command}
 use Rattle.sk_words.specs.Words.{matches}
 use Rattle.sk_words.specs.Request.{options_of, used}
 use Rattle.sk_words.specs.Asked.{Request, WordsAsk}
 use Rattle.station.specs.Files.{DocOf, PoolOf, LeapOf, ClockOf, TriplesOf}
-use Rattle.station.proofs.Determined.{IsOne, judges_one, single_append, single_each, zip_one}
+use Rattle.station.proofs.Determined.{IsOne, judges_one, single_each, zip_one}
 
 -- ---- documents
 
@@ -121,7 +119,7 @@ clock_one variables sc = judges_one (clock_checks variables sc) (IsClockOf varia
 
 triples_single : (variables : List VariableView) (clock : ClockView) (sc : ℕ) → AreSingle (triples_checks variables clock sc)
 triples_single variables clock sc =
-    let rows = single_each None 1 (row_checks (total clock)) (rows_of (values_for variables sc)) (λ before n row. (plain-single _ _, (plain-single _ _, (plain-single _ _, (plain-single _ _, tt))))) in
+    let rows = single_each None 1 (row_checks (total clock)) (rows_of (values_for variables sc)) (λ before n row. (plain-single _ _, (plain-single _ _, (plain-single _ _, (plain-single _ _, (plain-single _ _, tt)))))) in
     (plain-single _ _, (plain-single _ _, (plain-single _ _, rows)))
 
 pub whole_one : (m n : ℕ) → Number (record { coefficient = pos m; scale = 0 }) ≡ Number (record { coefficient = pos n; scale = 0 }) → m ≡ n
@@ -137,7 +135,7 @@ same_triple a b ticks time rate = λ i. record { anchor = record { ticks = ticks
 
 row_triple : (row : Row) (a b : TripleView) → IsTripleOf row a → IsTripleOf row b → a ≡ b
 row_triple row a b h k =
-    same_triple a b (whole_one a.anchor.ticks b.anchor.ticks (sym h.ticks ∙ k.ticks)) (h.time.1 ∙ sym k.time.1) (h.rate.1 ∙ sym k.rate.1)
+    same_triple a b (whole_one a.anchor.ticks b.anchor.ticks (sym h.ticks ∙ k.ticks)) (time_one row.time a.anchor.time b.anchor.time h.time k.time) (h.rate.1 ∙ sym k.rate.1)
 
 same_triples : (a b : TriplesView) → a.triples ≡ b.triples → a.per_count ≡ b.per_count → a.total ≡ b.total → a ≡ b
 same_triples a b triples per_count total = λ i. record { triples = triples i; per_count = per_count i; total = total i }

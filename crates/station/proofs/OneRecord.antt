@@ -1,29 +1,28 @@
 -- A file of observations has one answer.
-use Rattle.std.proofs.Common.{◌≡◌, ℕ, ℤ, ◌+◌, List, [], ◌∷◌, ◌++◌, Option, Some, None, Result, Ok, Err, refl, sym, ap, subst, ◌∙◌}
-use Rattle.std.specs.Prelude.{◌≢◌, length, drop, pos, ◌*◌, ◌-ℤ◌, ◌<◌, IsSomeAnd}
+use Rattle.std.proofs.Common.{◌≡◌, ℕ, ℤ, List, [], ◌∷◌, Option, None, sym, ap, subst, ◌∙◌}
+use Rattle.std.specs.Prelude.{drop, pos, ◌*◌, ◌-ℤ◌, IsSomeAnd}
 use Rattle.std.specs.List.{enumerate_from, AllZip}
-use Rattle.sk_checks.specs.Checks.{Check, ◌⇒◌, carried, FirstRefuses}
-use Rattle.sk_checks.proofs.ChecksLemmas.{AreSingle, IsSingle, plain-single, carried-single, FirstRefuses-one}
-use Rattle.sk_cuc.specs.Code.{CucView, cuc_checks, count}
+use Rattle.sk_checks.specs.Checks.{Check, ◌⇒◌, FirstRefuses}
+use Rattle.sk_checks.proofs.ChecksLemmas.{AreSingle, plain-single, carried-single, FirstRefuses-one}
+use Rattle.sk_cuc.specs.Code.{CucView, cuc_checks}
 use Rattle.sk_cuc.specs.declared.fault.CucFault.{CucFault}
 use Rattle.sk_cds.specs.Code.{CdsView, cds_checks}
 use Rattle.sk_cds.specs.declared.fault.CdsFault.{CdsFault}
 use Rattle.sk_clock.specs.Clock.{ClockView}
 use Rattle.sk_clock.specs.ClockText.{text_checks, code_checks}
-use Rattle.sk_clock.specs.Row.{RowView, IsObservedTime}
+use Rattle.sk_publishing.specs.Row.{RowView, IsObservedTime}
 use Rattle.sk_clock.specs.declared.fault.ClockFault.{ClockFault}
 use Rattle.sk_leap.specs.declared.pair.LeapPair.{LeapPair}
 use Rattle.sk_leap.specs.declared.utc.Utc.{Utc}
 use Rattle.sk_leap.specs.declared.utc.UtcFault.{UtcFault}
 use Rattle.sk_leap.specs.UtcText.{SpellsUtc}
 use Rattle.sk_leap.specs.Leap.{utc_checks}
-use Rattle.sk_obs.specs.declared.fault.ClockWord.{ClockWord}
 use Rattle.sk_obs.specs.declared.fault.ClockWord.TheVariants.{Text, Cuc}
 use Rattle.sk_obs.specs.declared.fault.CodeFault.TheVariants as code
 use Rattle.sk_obs.specs.declared.fault.ObsFault.{ObsFault}
 use Rattle.sk_obs.specs.declared.fault.ObsFault.TheVariants.{ClockRefused, CodeRefused, UtcRefused, BadDelay, TimeRange, OutOfOrder}
 use Rattle.sk_obs.specs.Words.{ClockForm, TickDigits, CodeBytes, ClockString, clock_form, form_checks, word_checks, IsHexOf, hex_part, IsCodeWord, TimeWord, TdtNumber, UtcCode, CucHex, CdsHex, OtherWord, time_word, time_checks, IsCdsHex, IsUtcOf}
-use Rattle.sk_obs.specs.File.{records_of, file_checks, record_checks, own_checks, observed_checks, AreObservations, IsRecordOf, IsObserved, IsDelay, id_of, clock_of, time_of, delay_of, IsNotAbove}
+use Rattle.sk_obs.specs.File.{records_of, file_checks, record_checks, own_checks, AreObservations, IsRecordOf, IsObserved, IsDelay, clock_of, time_of, delay_of, IsNotAbove}
 use Rattle.sk_obs.proofs.Laws.{IsHexOf-one, IsCodeWord-named, IsCodeWord-code, IsClockWord-one, SaysTime-one, SpellsUtc-one, utc_checks-same, cds_utc}
 use Rattle.station.specs.Files.{ObservationsOf}
 use Rattle.station.proofs.Determined.{IsOne, judges_one, single_append, single_each, zip_one}
@@ -79,7 +78,7 @@ word_single clock word = form_single clock (clock_form word)
 
 -- ---- time words
 
-utc_fault : (pairs : List LeapPair) (text : List ℕ) (a b : UtcFault)
+pub utc_fault : (pairs : List LeapPair) (text : List ℕ) (a b : UtcFault)
     → (u : Utc) × SpellsUtc text u × FirstRefuses (utc_checks pairs u) a → (u : Utc) × SpellsUtc text u × FirstRefuses (utc_checks pairs u) b → a ≡ b
 utc_fault pairs text a b h k =
     FirstRefuses-one (utc_checks pairs h.0) a b (utc_single pairs h.0) h.2 (utc_checks-same pairs k.0 h.0 b (SpellsUtc-one text k.0 h.0 k.1 h.1) k.2)

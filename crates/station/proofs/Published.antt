@@ -11,18 +11,19 @@ use Rattle.sk_grammar.specs.Spelling.{Spells}
 use Rattle.sk_grammar.specs.Canonical.{canonical_text}
 use Rattle.sk_grammar.proofs.CanonicalLines.{canonical_spelled}
 use Rattle.sk_clock.specs.Clock.{IsClock, ticks_per, total}
-use Rattle.sk_clock.specs.Row.{RowView, AreRows}
+use Rattle.sk_publishing.specs.Row.{RowView, AreRows}
 use Rattle.sk_leap.specs.declared.pair.LeapPair.{LeapPair}
 use Rattle.sk_obs.specs.Observation.{IsId}
-use Rattle.sk_triples.specs.Terms.{Sight, TripleView, Terms, sights, partition_at}
-use Rattle.sk_triples.specs.Line.{FallsOver}
-use Rattle.sk_triples.specs.Chain.{SegmentView, EachFollowed, FirstAndLater, IsMaximal, IsOldRate, IsGridRate, AreMaximal, new_triples, first_or, covered_by}
+use Rattle.sk_publishing.specs.Terms.{Sight, Terms, sights, partition_at}
+use Rattle.sk_line.specs.Triple.{TripleView}
+use Rattle.sk_line.specs.Line.{FallsOver}
+use Rattle.sk_publishing.specs.Chain.{SegmentView, EachFollowed, FirstAndLater, IsMaximal, IsOldRate, IsGridRate, AreMaximal, new_triples, first_or, covered_by}
 use Rattle.sk_triples.specs.Kernel.{IsTriple, Rise, AreTriples, AreKept}
-use Rattle.sk_triples.specs.Laws.{IsWithinTolerance}
-use Rattle.sk_triples.specs.Table.{kernel_view, table_lines}
-use Rattle.sk_triples.specs.Published.{published_block, triple_values, appended}
+use Rattle.sk_publishing.specs.Meets.{IsWithinTolerance}
+use Rattle.sk_publishing.specs.Table.{kernel_view, table_lines}
+use Rattle.sk_publishing.specs.Published.{published_block, triple_values, appended}
 use Rattle.sk_triples.proofs.KernelOf.{positive_count}
-use Rattle.sk_triples.proofs.Lists.{all_map}
+use Rattle.sk_line.proofs.Lists.{all_map}
 use Rattle.sk_fit.specs.declared.chain.Chain.{Chain}
 use Rattle.sk_fit.specs.Given.{terms_of, segments_of, new_triples_of, chain_view}
 use Rattle.sk_fit.specs.Causes.{Gives, input}
@@ -40,14 +41,22 @@ use Rattle.sk_status.specs.declared.status.Status.{Status}
 use Rattle.sk_status.specs.declared.status.Status.TheVariants.{Done}
 use Rattle.sk_status.specs.Written.{Written}
 use Rattle.station.specs.Ending.{Ends}
-use Rattle.station.specs.Files.{Source, KernelRead, sc_of, leap_named, kernel_file, LeapOf, ClockOf, TriplesOf, ObservationsOf}
+use Rattle.station.specs.Seen.{Source}
+use Rattle.station.specs.Files.{KernelRead, OpenedRead, InputsRead, sc_of, leap_named, leap_file, kernel_file, observation_file, opened_read, inputs_read, LeapOf, ClockOf, TriplesOf, ObservationsOf}
 use Rattle.station.specs.Output.{settings_of, dated, new_kernel, published_doc, published_table}
-use Rattle.station.specs.Outcome.{requested, outcome, outcome_of, publish}
-use Rattle.station.specs.Headline.{AreHeld, IsLeapHeld, GivePairs, IsKernel, MayEnd, IsPublished, told, doc_with}
+use Rattle.station.specs.Outcome.{requested, outcome, outcome_of, publish, all_covered}
+use Rattle.station.specs.Headline.{AreHeld, AreShort, IsShort, IsLeapHeld, GivePairs, IsKernel, MayEnd, IsPublished, doc_with}
+use Rattle.sk_publishing.specs.Told.{told, HasSmallResidual}
+use Rattle.sk_publishing.proofs.Order.{order_law}
+use Rattle.sk_publishing.proofs.SmallSteps.{step_law}
+use Rattle.sk_publishing.proofs.Barred.{barred_law}
+use Rattle.sk_publishing.proofs.Marks.{marks_law}
+use Rattle.sk_publishing.proofs.Residuals.{residual_law}
 use Rattle.station.proofs.Complete.{asked_for}
 use Rattle.station.proofs.Documents.{spelled_valid, published_valid}
 use Rattle.station.proofs.NewJoins.{falls_stand}
-use Rattle.station.proofs.NewTimes.{kept_within}
+use Rattle.station.proofs.NewTimes.{kept_within, sights_rise, triples_rise}
+use Rattle.station.proofs.Timed.{all_timed}
 use Rattle.station.proofs.NewTriples.{new_triples_seen}
 use Rattle.station.proofs.Ranges.{AreSound, clock_ranges, triples_ranges, rows_ranges}
 use Rattle.station.proofs.Reread.{reread, items_behind, old_plain}
@@ -84,7 +93,7 @@ all_may_end t (s ∷ later) next h = (may_end (IsOldRate t) t s (first_or (cover
 
 module _ (options : Options) (within : AreWithin options) (leap_bytes : Option (List ℕ)) (kernel_bytes observation_bytes : List ℕ) (leap : List LeapPair) (old : KernelRead)
     (rows : List RowView) (chain : Chain) (is_old : IsKernel (sc_of options) kernel_bytes old) (are : ObservationsOf observation_bytes old.clock leap (Ok rows))
-    (g : Gives (input old.triples old.clock rows (settings_of options)) chain) where
+    (g : Gives (input old.triples old.clock rows (settings_of options)) chain) (covers : all_covered (new_kernel old chain) rows (Ok tt)) where
   abbrev variables : List VariableView
   variables = variables_of (items_of old.doc)
 
@@ -176,8 +185,9 @@ module _ (options : Options) (within : AreWithin options) (leap_bytes : Option (
   same_doc : doc ≡ doc_with options old g.old rows g.dropped segments
   same_doc = λ i. appended old.doc (published_block (dated options) (sc_of options) (seen i) (table_lines (kernel_view 12 old.clock (old.triples.triples ++ seen i)) (Some (view i)) rows))
 
-  pub is_published : GivePairs leap_bytes leap → IsPublished options leap_bytes kernel_bytes observation_bytes (canonical_text doc)
-  is_published is_leap = record {
+  pub is_published : AreShort leap_bytes kernel_bytes observation_bytes → GivePairs leap_bytes leap → IsPublished options leap_bytes kernel_bytes observation_bytes (canonical_text doc)
+  is_published short is_leap = record {
+    short = short;
     leap = leap;
     is_leap = is_leap;
     old = old;
@@ -200,6 +210,16 @@ module _ (options : Options) (within : AreWithin options) (leap_bytes : Option (
     falls = falls;
     rises = all_map (IsTriple old.triples.total) (λ (t : TripleView). pos 0 <ℤ t.rate) (λ t is. is.positive) (old.triples.triples ++ added) triples.each;
     begins = all_may_end terms segments None g.publication.is_chain.maximal;
+    begun = g.begins;
+    timed = all_timed (new_kernel old chain) rows covers.0;
+    ordered = λ a b over_a over_b less stands at_a at_b. order_law (ticks_per old.clock) (old.triples.triples ++ added) a b over_a over_b positive
+        (triples_rise (old.triples.triples ++ added) triples.rise)
+        (all_map (IsTriple old.triples.total) (λ (t : TripleView). pos 0 <ℤ t.rate) (λ t is. is.positive) (old.triples.triples ++ added) triples.each) less stands at_a at_b;
+    steps = step_law terms g.publication.kept None segments positive g.publication.is_chain;
+    barred = barred_law terms g.publication.kept None segments g.publication.is_chain;
+    marked = marks_law terms rows g.dropped segments (sights_rise 0 rows known.0.rising) g.publication;
+    residuals = all_map (IsWithinTolerance terms.gauge (old.triples.triples ++ added)) (HasSmallResidual (kernel_view 12 old.clock (old.triples.triples ++ added)) terms.gauge)
+        (λ o near. residual_law (kernel_view 12 old.clock (old.triples.triples ++ added)) terms.gauge o refl refl positive near) g.publication.kept near;
   }
 
 -- ---- the files
@@ -217,6 +237,11 @@ pairs_of source (Some name) (Some bytes) pairs h held =
       (h.2.1.0, refl),
       subst (λ (variables : List VariableView). LeapOf variables (Ok pairs)) h.2.1.1 h.2.2,
     )
+
+short_leap : (source : Source) (name bytes : Option (List ℕ)) (pairs : List LeapPair) → leap_named source name (Ok pairs) → IsLeapHeld source.holds name bytes → IfSome bytes IsShort
+short_leap source None bytes pairs h held = subst (λ (b : Option (List ℕ)). IfSome b IsShort) (sym held) tt
+short_leap source (Some name) None pairs h held = tt
+short_leap source (Some name) (Some bytes) pairs h held = subst IsShort (read_is (source.holds name) h.1.0 bytes h.1.1.1 held.0) h.1.1.0
 
 -- the kernel of the bytes that were read
 kernel_of : (source : Source) (options : Options) (bytes : List ℕ) (kernel : KernelRead) → kernel_file source options (Ok kernel) → source.holds (text_or opt.Kernel options) ≡ Some bytes
@@ -236,22 +261,51 @@ kernel_of source options bytes kernel h held =
     read_back : (a b : KernelRead) → ◌≡◌ {A = Result KernelRead Status} (Ok a) (Ok b) → a ≡ b
     read_back a b e = cc
 
+opened_are : (source : Source) (options : Options) (opened : OpenedRead) → opened_read source options (Ok opened)
+    → leap_file source options (Ok opened.leap) × kernel_file source options (Ok opened.kernel)
+opened_are source options opened h =
+    let leap : h.0 ≡ opened.leap = cc in
+    let kernel : h.2.0 ≡ opened.kernel = cc in
+    (subst (λ (pairs : List LeapPair). leap_file source options (Ok pairs)) leap h.1, subst (λ (k : KernelRead). kernel_file source options (Ok k)) kernel h.2.1)
+
+-- what was read of the three files
+inputs_are : (source : Source) (options : Options) (inputs : InputsRead) → inputs_read source options (Ok inputs)
+    → (leap : List LeapPair) × leap_file source options (Ok leap) × kernel_file source options (Ok inputs.kernel)
+    × observation_file source options (record { leap = leap; kernel = inputs.kernel }) (Ok inputs.observations)
+inputs_are source options inputs h =
+    let opened = opened_are source options h.0 h.1 in
+    let kernel : h.0.kernel ≡ inputs.kernel = cc in
+    let rows : h.2.0 ≡ inputs.observations = cc in (
+      h.0.leap,
+      opened.0,
+      subst (λ (k : KernelRead). kernel_file source options (Ok k)) kernel opened.1,
+      subst (λ (k : KernelRead). observation_file source options (record { leap = h.0.leap; kernel = k }) (Ok inputs.observations)) kernel
+          (subst (λ (os : List RowView). observation_file source options h.0 (Ok os)) rows h.2.1),
+    )
+
 -- ---- the run
 
 -- the text of a publication is a published kernel
 pub published_text : (source : Source) (options : Options) (leap_bytes : Option (List ℕ)) (kernel_bytes observation_bytes text : List ℕ) → AreWithin options
     → AreHeld source.holds options leap_bytes kernel_bytes observation_bytes → publish source options (Ok text) → IsPublished options leap_bytes kernel_bytes observation_bytes text
 published_text source options leap_bytes kernel_bytes observation_bytes text within held h =
-    let leap : List LeapPair = h.0 in
-    let old : KernelRead = h.2.0 in
-    let rows : List RowView = h.2.2.0 in
-    let chain : Chain = h.2.2.2.0 in
-    let is_old : IsKernel (sc_of options) kernel_bytes old = kernel_of source options kernel_bytes old h.2.1 held.kernel in
-    let same : h.2.2.1.0 ≡ observation_bytes = read_is (source.holds (text_or opt.Obs options)) h.2.2.1.0 observation_bytes h.2.2.1.1.1 held.observations in
-    let are : ObservationsOf observation_bytes old.clock leap (Ok rows) = subst (λ (bytes : List ℕ). ObservationsOf bytes old.clock leap (Ok rows)) same h.2.2.1.2 in
-    let is : text ≡ canonical_text (published_doc options old rows chain) = text_is text (canonical_text (published_doc options old rows chain)) h.2.2.2.2.2 in
+    let read = inputs_are source options h.0 h.1 in
+    let leap : List LeapPair = read.0 in
+    let old : KernelRead = h.0.kernel in
+    let rows : List RowView = h.0.observations in
+    let chain : Chain = h.2.0 in
+    let is_old : IsKernel (sc_of options) kernel_bytes old = kernel_of source options kernel_bytes old read.2 held.kernel in
+    let same : read.3.0 ≡ observation_bytes = read_is (source.holds (text_or opt.Obs options)) read.3.0 observation_bytes read.3.1.1 held.observations in
+    let are : ObservationsOf observation_bytes old.clock leap (Ok rows) = subst (λ (bytes : List ℕ). ObservationsOf bytes old.clock leap (Ok rows)) same read.3.2 in
+    let short : AreShort leap_bytes kernel_bytes observation_bytes = record {
+      leap = short_leap source (options opt.Leap) leap_bytes leap read.1 held.leap;
+      kernel = subst IsShort (read_is (source.holds (text_or opt.Kernel options)) read.2.1.0 kernel_bytes read.2.1.1.1 held.kernel) read.2.1.1.0;
+      observations = subst IsShort same read.3.1.0;
+    } in
+    let is : text ≡ canonical_text (published_doc options old rows chain) = text_is text (canonical_text (published_doc options old rows chain)) h.2.2.2 in
     subst (IsPublished options leap_bytes kernel_bytes observation_bytes) (sym is)
-    (is_published options within leap_bytes kernel_bytes observation_bytes leap old rows chain is_old are h.2.2.2.1 (pairs_of source (options opt.Leap) leap_bytes leap h.1 held.leap))
+    (is_published options within leap_bytes kernel_bytes observation_bytes leap old rows chain is_old are h.2.1 h.2.2.1 short
+    (pairs_of source (options opt.Leap) leap_bytes leap read.1 held.leap))
   where
     text_is : (a b : List ℕ) → ◌≡◌ {A = Result (List ℕ) Status} (Ok a) (Ok b) → a ≡ b
     text_is a b e = cc

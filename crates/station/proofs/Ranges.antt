@@ -13,7 +13,7 @@ use Rattle.sk_grammar.specs.Variables.{VariableView}
 use Rattle.sk_clock.specs.declared.fault.ClockName.TheVariants as name
 use Rattle.sk_clock.specs.Clock.{ClockView, IsClock, total}
 use Rattle.sk_clock.specs.Kernel.{IsOneFrom, name_of}
-use Rattle.sk_clock.specs.Row.{RowView, AreRows, IsObservedTime}
+use Rattle.sk_publishing.specs.Row.{RowView, AreRows, IsObservedTime}
 use Rattle.sk_clock.proofs.KernelLemmas.{same_number}
 use Rattle.sk_leap.specs.declared.pair.LeapPair.{LeapPair}
 use Rattle.sk_obs.specs.declared.fault.ObsFault.TheVariants.{TimeRange, BadDelay, OutOfOrder}
@@ -23,12 +23,13 @@ use Rattle.sk_obs.specs.File.{records_of, file_checks, record_checks, own_checks
 use Rattle.sk_obs.proofs.Files.{IsBefore, AreFrom}
 use Rattle.sk_obs.proofs.Laws.{IsClockWord-within}
 use Rattle.sk_obs.proofs.Progress.{HasRows, IsAbove, no_rows, one_more}
-use Rattle.sk_triples.specs.Terms.{TripleView}
+use Rattle.sk_line.specs.Triple.{TripleView}
 use Rattle.sk_triples.specs.Kernel.{TriplesView, IsTriple, Rise}
 use Rattle.sk_triples.specs.Coefficients.{Row, row_checks, rows_of, values_for, IsTripleOf}
 use Rattle.sk_triples.specs.Reading.{ArePair, Follows}
-use Rattle.sk_triples.proofs.Decimals.{large_time, low_rate, large_rate, abs_from, abs_to}
+use Rattle.sk_triples.proofs.Decimals.{low_rate, large_rate, abs_from, abs_to}
 use Rattle.sk_triples.proofs.ReadRows.{out_of_order}
+use Rattle.sk_triples.proofs.RowTimes.{large_row_time}
 use Rattle.station.specs.Files.{ClockOf, TriplesOf, ObservationsOf}
 use Rattle.station.proofs.OneAnswer.{whole_one}
 use Rattle.station.proofs.Reread.{Leads}
@@ -99,10 +100,10 @@ module _ (whole : ℕ) where
       to = abs_to t.anchor.time (10 ^ 28) small;
       positive = elim (sign t.rate) [
         | inl some ↦ some
-        | inr low ↦ absurd (none.1.1.0 (low_rate row.rate (subst (λ (z : ℤ). z ≤ℤ pos 0) of.rate.1 low)))
+        | inr low ↦ absurd (none.1.1.1.0 (low_rate row.rate (subst (λ (z : ℤ). z ≤ℤ pos 0) of.rate.1 low)))
       ];
       slow = elim (order (pos (1000 * 10 ^ 18)) t.rate) [
-        | inl large ↦ absurd (none.1.1.0 (large_rate row.rate of.rate.0 (subst (λ (z : ℤ). pos (1000 * 10 ^ 18) <ℤ z) of.rate.1 large)))
+        | inl large ↦ absurd (none.1.1.1.0 (large_rate row.rate of.rate.0 (subst (λ (z : ℤ). pos (1000 * 10 ^ 18) <ℤ z) of.rate.1 large)))
         | inr slow ↦ slow
       ];
     },
@@ -111,12 +112,12 @@ module _ (whole : ℕ) where
     where
       small : nat_abs t.anchor.time ≤ 10 ^ 28
       small = elim (cases_lt (10 ^ 28) (nat_abs t.anchor.time)) [
-        | inl large ↦ absurd (none.1.0 (large_time row.time of.time.0 (subst (λ (z : ℤ). 10 ^ 28 < nat_abs z) of.time.1 large)))
+        | inl large ↦ absurd (none.1.1.0 (large_row_time row.time t.anchor.time of.time large))
         | inr le ↦ le
       ]
 
       in_order : (previous : Option TripleView) → ArePair before previous → (Follows previous t → ⊥) → ⊥
-      in_order previous pair other = none.1.1.1.0 (out_of_order before previous row t pair of other)
+      in_order previous pair other = none.1.1.1.1.0 (out_of_order before previous row t pair of other)
 
       follows : (previous : Option TripleView) → ArePair before previous → Follows previous t
       follows None pair = tt
@@ -134,8 +135,8 @@ module _ (whole : ℕ) where
   rows_kept before previous n [] (t ∷ ts) pair zip none = absurd zip
   rows_kept before previous n (row ∷ rows) [] pair zip none = absurd zip
   rows_kept before previous n (row ∷ rows) (t ∷ ts) pair zip none =
-      let here = row_kept before previous n row t pair zip.0 (none.0, (none.1.0, (none.1.1.0, (none.1.1.1.0, tt)))) in
-      let later = rows_kept (Some row) (Some t) (n + 1) rows ts zip.0 zip.1 none.1.1.1.1 in
+      let here = row_kept before previous n row t pair zip.0 (none.0, (none.1.0, (none.1.1.0, (none.1.1.1.0, (none.1.1.1.1.0, tt))))) in
+      let later = rows_kept (Some row) (Some t) (n + 1) rows ts zip.0 zip.1 none.1.1.1.1.1 in
       ((here.0, later.0), here.1, rise_of t ts later.1 later.2)
 
 pub record AreSound (t : TriplesView) : Type 0 where

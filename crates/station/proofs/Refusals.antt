@@ -1,12 +1,14 @@
 -- What the stages of a run refuse is no end of a run that wrote.
-use Rattle.std.proofs.Common.{◌≡◌, ◌⊎◌, ℕ, ℤ, ◌+◌, ◌++◌, List, Option, Some, None, Result, Ok, Err, [], ◌∷◌, refl, sym, subst, inl, inr}
+use Rattle.std.proofs.Common.{◌≡◌, ℕ, ℤ, pos, ◌*ℤ◌, ◌^◌, ◌+◌, ◌++◌, List, Option, Some, None, Result, Ok, Err, [], ◌∷◌, sym, subst, inl, inr}
 use Rattle.std.specs.Prelude.{codes, unwrap_or, IsSomeAnd}
 use Rattle.sk_status.specs.declared.status.Status.{Status}
-use Rattle.sk_status.specs.declared.status.Status.TheVariants.{Done, WordsRefused, LeapRefused, KernelRefused, ObservationRefused, NotPublished, ReadFault, WriteFault, NoMemory, TimeRefused, AuditNo, NewRefused, ExcerptRefused, OverRefused}
+use Rattle.sk_status.specs.declared.status.Status.TheVariants.{Done, WordsRefused, LeapRefused, KernelRefused, ObservationRefused, NotPublished, WriteFault, NoMemory, TimeRefused}
 use Rattle.sk_words.specs.declared.tables.Command.{Command}
-use Rattle.sk_words.specs.declared.tables.Command.TheVariants.{Publish, Residuals, Normal, Convert}
+use Rattle.sk_words.specs.declared.tables.Command.TheVariants.{Publish, Residuals, Normal, Convert, Invert}
 use Rattle.sk_status.specs.declared.status.FileKind.{FileKind}
-use Rattle.sk_status.specs.declared.status.FileKind.TheVariants.{Leap, Kernel, Observations, New, Over}
+use Rattle.sk_status.specs.declared.status.FileKind.TheVariants.{Document, Observations}
+use Rattle.sk_status.specs.declared.status.DocumentKind.{DocumentKind}
+use Rattle.sk_status.specs.declared.status.DocumentKind.TheVariants.{Leap, Kernel, New, Over}
 use Rattle.sk_words.specs.declared.tables.OptionName.TheVariants as opt
 use Rattle.sk_status.specs.declared.status.LeapStop.TheVariants as leap_stop
 use Rattle.sk_status.specs.declared.status.KernelStop.TheVariants as kernel_stop
@@ -16,9 +18,9 @@ use Rattle.sk_grammar.specs.Variables.{VariableView, items_of, values_at, IsMixe
 use Rattle.sk_grammar.specs.Canonical.{ended_by_line_feeds, canonical_text}
 use Rattle.sk_leap.specs.declared.pair.LeapPair.{LeapPair}
 use Rattle.sk_clock.specs.Clock.{ClockView, total}
-use Rattle.sk_clock.specs.Row.{RowView, IsObservedTime}
-use Rattle.sk_triples.specs.Terms.{TripleView}
-use Rattle.sk_triples.specs.Line.{covering}
+use Rattle.sk_publishing.specs.Row.{RowView, IsObservedTime}
+use Rattle.sk_line.specs.Triple.{TripleView}
+use Rattle.sk_line.specs.Line.{covering}
 use Rattle.sk_triples.specs.Kernel.{TriplesView, range_checks}
 use Rattle.sk_checks.specs.Checks.{Check, ◌⇒◌, carried, Judges, FirstRefuses, Refuses, each_after}
 use Rattle.sk_grammar.specs.declared.fault.GrammarFault.{GrammarFault}
@@ -36,24 +38,29 @@ use Rattle.sk_obs.specs.declared.fault.ObsFault.{ObsFault}
 use Rattle.sk_obs.specs.declared.fault.ObsFault.TheVariants.{BadDelay, TimeRange, OutOfOrder}
 use Rattle.sk_obs.specs.File.{records_of, file_checks, record_checks, own_checks, time_of, delay_of, IsDelay, IsObserved, IsNotAbove}
 use Rattle.sk_obs.specs.Words.{TimeWord, TdtNumber, UtcCode, CucHex, CdsHex, OtherWord, time_word, time_checks}
-use Rattle.sk_triples.specs.Terms.{sights}
-use Rattle.sk_fit.specs.declared.chain.Chain.{Chain}
 use Rattle.sk_fit.specs.declared.fault.FitFault.{FitFault}
 use Rattle.sk_fit.specs.declared.fault.FitFault.TheVariants as fit
 use Rattle.sk_fit.specs.Causes.{Fits, input}
 use Rattle.sk_report.specs.Report.{table_checks}
 use Rattle.sk_report.specs.declared.fault.ReportFault.{ReportFault}
 use Rattle.sk_report.specs.declared.fault.ReportFault.TheVariants as report_fault
+use Rattle.sk_words.specs.declared.topic.Topic.{Topic}
+use Rattle.sk_words.specs.Help.{page_of}
+use Rattle.sk_words.specs.Topics.{topic_of}
 use Rattle.station.specs.Stage.{Stage, ◌>>=◌, MayAnswer, gives, some}
 use Rattle.sk_words.specs.Asked.{WordsAsk}
 use Rattle.sk_words.specs.Request.{Options, text_or}
 use Rattle.station.specs.Files as files
-use Rattle.station.specs.Files.{Source, KernelRead, reads, judged, refused_by, too_long, sc_of}
-use Rattle.station.specs.Outcome.{requested, outcome, outcome_of, publish, chain_of, residuals, normal, convert, converted, clock_tick, TickOf, covered, tabled, all_covered, status_of_report}
+use Rattle.station.specs.Seen.{Source}
+use Rattle.station.specs.Files.{KernelRead, OpenedRead, InputsRead, reads, judged, refused_by, document_too_long, too_long, opened_read, inputs_read, sc_of}
+use Rattle.sk_inverse.specs.Inverse.{IsTickOf, inverse_checks}
+use Rattle.sk_inverse.specs.declared.fault.InverseFault.{InverseFault}
+use Rattle.sk_inverse.specs.declared.fault.InverseFault.TheVariants as inverse_fault
+use Rattle.station.specs.Outcome.{requested, commanded, told_or, outcome, outcome_of, publish, publish_of, chain_of, residuals, residuals_of, normal, normal_of, convert, convert_of, converted, invert, invert_of, said, ticked, told, TimeOf, status_of_time, clock_tick, TickOf, covered, tabled, all_covered, status_of_report}
 use Rattle.station.specs.Publishing.{after_chain, after_rows}
 use Rattle.station.specs.Output.{settings_of, plain_table, new_kernel, published_doc, tick_fields, time_by, line_of}
 use Rattle.station.specs.Time.{IsUtcWord}
-use Rattle.station.proofs.Tails.{publish_after_leap, publish_after_kernel, after_leap, after_kernel, after_observations, after_lines, after_clock}
+use Rattle.station.proofs.Follows.{kernel_after, rows_after}
 use Rattle.station.specs.Ending.{Ends}
 use Rattle.sk_status.specs.Written.{Written, IsUntouched}
 use Rattle.sk_status.specs.Notes.{CarriesNoMemory}
@@ -115,28 +122,30 @@ say_each Q before n checks (x ∷ xs) said = say_append Q (checks before n x) (e
 
 -- ---- files
 
+document_stands : (kind : DocumentKind) → Stands (document_too_long kind)
+document_stands Leap = standing
+document_stands Kernel = standing
+document_stands New = standing
+document_stands (Over place) = standing
+
 long_stands : (kind : FileKind) → Stands (too_long kind)
-long_stands Leap = standing
-long_stands Kernel = standing
+long_stands (Document kind) = document_stands kind
 long_stands Observations = standing
-long_stands New = standing
-long_stands (Over place) = standing
 
 always_reads : (source : Source) (kind : FileKind) (name : List ℕ) → Always (reads source kind name)
 always_reads source kind name status (inl h) = subst Stands (sym h.0) standing
 always_reads source kind name status (inr h) = subst Stands (sym h.0) (long_stands kind)
 
-doc_stands : (kind : FileKind) (bytes : List ℕ) (fault : GrammarFault) → files.DocOf bytes (Err fault) → Stands (refused_by kind fault)
+doc_stands : (kind : DocumentKind) (bytes : List ℕ) (fault : GrammarFault) → files.DocOf bytes (Err fault) → Stands (refused_by kind fault)
 doc_stands Leap bytes (grammar.At line reason) h = standing
 doc_stands Kernel bytes (grammar.At line reason) h = standing
-doc_stands Observations bytes (grammar.At line reason) h = standing
 doc_stands New bytes (grammar.At line reason) h = standing
 doc_stands (Over place) bytes (grammar.At line reason) h = standing
 doc_stands kind bytes grammar.NoMemory h = absurd h
 
-always_document : (source : Source) (kind : FileKind) (name : List ℕ) → Always (files.document source kind name (refused_by kind))
+always_document : (source : Source) (kind : DocumentKind) (name : List ℕ) → Always (files.document source kind name)
 always_document source kind name =
-    always_then (reads source kind name) (λ bytes. judged (files.DocOf bytes) (refused_by kind)) (always_reads source kind name)
+    always_then (reads source (Document kind) name) (λ bytes. judged (files.DocOf bytes) (refused_by kind)) (always_reads source (Document kind) name)
     (λ bytes. always_judged (files.DocOf bytes) (refused_by kind) (doc_stands kind bytes))
 
 pool_stands : (doc : DocView) (status_of : PoolFault → Status) → ((n : ℕ) → Stands (status_of (AppendMixed n))) → (fault : PoolFault) → files.PoolOf doc (Err fault) → Stands (status_of fault)
@@ -153,7 +162,7 @@ leap_stands variables fault h =
 always_leap_named : (source : Source) (o : Option (List ℕ)) → Always (files.leap_named source o)
 always_leap_named source None = always_gives {A = List LeapPair} []
 always_leap_named source (Some name) =
-    always_then (files.document source Leap name (refused_by Leap)) files.leap_meaning (always_document source Leap name)
+    always_then (files.document source Leap name) files.leap_meaning (always_document source Leap name)
     (λ doc. always_then (files.leap_pool doc) files.leap_table
     (always_judged (files.PoolOf doc) (λ f. LeapRefused (leap_stop.Pool f)) (pool_stands doc (λ f. LeapRefused (leap_stop.Pool f)) (λ n. standing)))
     (λ variables. always_judged (files.LeapOf variables) (λ f. LeapRefused (leap_stop.Leap f)) (leap_stands variables)))
@@ -168,7 +177,7 @@ triples_stand : (variables : List VariableView) (clock : ClockView) (sc : ℕ) (
 triples_stand variables clock sc fault h =
     let Q : TriplesFault → Type 0 = λ f. Stands (KernelRefused (kernel_stop.Triples f)) in
     said_of Q (triples_checks variables clock sc) fault
-    (standing, (standing, (standing, (say_each Q None 1 (row_checks (total clock)) (rows_of (values_for variables sc)) (λ before n row. (standing, (standing, (standing, (standing, tt))))))))) h
+    (standing, (standing, (standing, (say_each Q None 1 (row_checks (total clock)) (rows_of (values_for variables sc)) (λ before n row. (standing, (standing, (standing, (standing, (standing, tt)))))))))) h
 
 always_meaning : (sc : ℕ) (doc : DocView) → Always (files.kernel_meaning sc doc)
 always_meaning sc doc =
@@ -185,6 +194,12 @@ always_kernel source options =
     always_then (files.kernel_document source options) (files.kernel_meaning (sc_of options))
     (always_document source Kernel (text_or opt.Kernel options))
     (always_meaning (sc_of options))
+
+always_opened : (source : Source) (options : Options) → Always (opened_read source options)
+always_opened source options =
+    always_then (files.leap_file source options) (kernel_after options source) (always_leap_named source (options opt.Leap))
+    (λ leap. always_then (files.kernel_file source options) (λ kernel. gives {A = OpenedRead} (record { leap = leap; kernel = kernel })) (always_kernel source options)
+    (λ kernel. always_gives {A = OpenedRead} (record { leap = leap; kernel = kernel })))
 
 -- ---- observations
 
@@ -210,12 +225,20 @@ file_said : (clock : ClockView) (pairs : List LeapPair) (rows : List (List (List
 file_said clock pairs [] = (standing, tt)
 file_said clock pairs (header ∷ rows) = (standing, say_each RecordStands None 2 (record_checks clock pairs) rows (record_said clock pairs))
 
-always_observations : (source : Source) (options : Options) (clock : ClockView) (leap : List LeapPair) → Always (files.observation_file source options clock leap)
-always_observations source options clock leap =
+always_observations : (source : Source) (options : Options) (opened : OpenedRead) → Always (files.observation_file source options opened)
+always_observations source options opened =
+    let clock : ClockView = opened.kernel.clock in
+    let leap : List LeapPair = opened.leap in
     always_then (reads source Observations (text_or opt.Obs options)) (λ bytes. files.observed bytes clock leap)
     (always_reads source Observations (text_or opt.Obs options))
     (λ bytes. always_judged (files.ObservationsOf bytes clock leap) (λ f. ObservationRefused (obs_stop.Record f))
     (λ fault h. said_of RecordStands (file_checks clock leap (records_of bytes)) fault (file_said clock leap (records_of bytes)) h))
+
+always_inputs : (source : Source) (options : Options) → Always (inputs_read source options)
+always_inputs source options =
+    always_then (opened_read source options) (rows_after options source) (always_opened source options)
+    (λ opened. always_then (files.observation_file source options opened) (λ rows. gives {A = InputsRead} (record { kernel = opened.kernel; observations = rows })) (always_observations source options opened)
+    (λ rows. always_gives {A = InputsRead} (record { kernel = opened.kernel; observations = rows })))
 
 -- ---- the commands
 
@@ -248,22 +271,17 @@ always_after_rows options kernel rows =
     (always_all_covered (new_kernel kernel chain) rows) (λ covers. always_gives (canonical_text (published_doc options kernel rows chain))))
 
 always_publish : (source : Source) (options : Options) → Always (publish source options)
-always_publish source options =
-    always_then (files.leap_file source options) (publish_after_leap source options) (always_leap_named source (options opt.Leap))
-    (λ leap. always_then (files.kernel_file source options) (publish_after_kernel source options leap) (always_kernel source options)
-    (λ kernel. always_then (files.observation_file source options kernel.clock leap) (after_rows options kernel) (always_observations source options kernel.clock leap)
-    (λ rows. always_after_rows options kernel rows)))
+always_publish source options = always_then (inputs_read source options) (publish_of options) (always_inputs source options) (λ inputs. always_after_rows options inputs.kernel inputs.observations)
 
 always_residuals : (source : Source) (options : Options) → Always (residuals source options)
 always_residuals source options =
-    always_then (files.leap_file source options) (after_leap source options) (always_leap_named source (options opt.Leap))
-    (λ leap. always_then (files.kernel_file source options) (after_kernel source options leap) (always_kernel source options)
-    (λ kernel. always_then (files.observation_file source options kernel.clock leap) (after_observations kernel) (always_observations source options kernel.clock leap)
-    (λ rows. always_then (tabled kernel rows) after_lines (always_tabled kernel rows) (λ lines. always_gives (ended_by_line_feeds lines)))))
+    always_then (inputs_read source options) residuals_of (always_inputs source options)
+    (λ inputs. always_then (tabled inputs.kernel inputs.observations) (λ lines. gives (ended_by_line_feeds lines)) (always_tabled inputs.kernel inputs.observations)
+    (λ lines. always_gives (ended_by_line_feeds lines)))
 
 always_normal : (source : Source) (options : Options) → Always (normal source options)
 always_normal source options =
-    always_then (files.kernel_document source options) (λ doc. gives (canonical_text doc)) (always_document source Kernel (text_or opt.Kernel options)) (λ doc. always_gives (canonical_text doc))
+    always_then (files.kernel_document source options) normal_of (always_document source Kernel (text_or opt.Kernel options)) (λ doc. always_gives (canonical_text doc))
 
 always_covered : (triples : TriplesView) (number tick : ℕ) → Always (covered triples number tick)
 always_covered triples number tick =
@@ -277,23 +295,59 @@ always_converted leap kernel tick =
 
 always_convert : (source : Source) (options : Options) → Always (convert source options)
 always_convert source options =
-    always_then (files.leap_file source options) (λ leap. files.kernel_file source options >>= after_clock options leap) (always_leap_named source (options opt.Leap))
-    (λ leap. always_then (files.kernel_file source options) (after_clock options leap) (always_kernel source options)
-    (λ kernel. always_then (clock_tick (text_or opt.Clock options) kernel.clock) (converted leap kernel)
-    (always_judged (TickOf (text_or opt.Clock options) kernel.clock) (λ w. ObservationRefused (obs_stop.Clock w)) (λ fault h. standing))
-    (always_converted leap kernel)))
+    always_then (opened_read source options) (convert_of options) (always_opened source options)
+    (λ opened. always_then (clock_tick (text_or opt.Clock options) opened.kernel.clock) (converted opened.leap opened.kernel)
+    (always_judged (TickOf (text_or opt.Clock options) opened.kernel.clock) (λ w. ObservationRefused (obs_stop.Clock w)) (λ fault h. standing))
+    (always_converted opened.leap opened.kernel))
+
+ticked_stands : (fault : InverseFault) → Stands (status_of_time fault)
+ticked_stands inverse_fault.BeforeFirst = standing
+ticked_stands inverse_fault.PastEnd = standing
+
+always_told : (kernel : KernelRead) (tick : ℕ) → Always (told kernel tick)
+always_told kernel tick =
+    always_then (covered kernel.triples 0 tick) (λ (triple : TripleView). gives (line_of (tick_fields kernel triple tick))) (always_covered kernel.triples 0 tick)
+    (λ triple. always_gives (line_of (tick_fields kernel triple tick)))
+
+always_invert : (source : Source) (options : Options) → Always (invert source options)
+always_invert source options =
+    always_then (opened_read source options) (invert_of options) (always_opened source options)
+    (λ opened. always_then (said (text_or opt.Time options) opened.leap) (λ time. ticked opened.kernel time >>= told opened.kernel)
+    (always_judged (TimeOf (text_or opt.Time options) opened.leap) TimeRefused (λ fault h. standing))
+    (λ time. always_then (ticked opened.kernel time) (told opened.kernel)
+    (always_judged (Judges (inverse_checks opened.kernel.triples (time *ℤ pos (10 ^ 6))) (IsTickOf opened.kernel.triples (time *ℤ pos (10 ^ 6)))) status_of_time (λ fault h. ticked_stands fault))
+    (always_told opened.kernel)))
 
 always_command : (command : Command) (source : Source) (options : Options) → Always (outcome_of command source options)
 always_command Publish source options = always_publish source options
 always_command Residuals source options = always_residuals source options
 always_command Normal source options = always_normal source options
 always_command Convert source options = always_convert source options
+always_command Invert source options = always_invert source options
+
+always_commanded : (words : List (List ℕ)) (source : Source) → Always (commanded words source)
+always_commanded words source =
+    always_then (requested words) (λ request. outcome_of request.command source request.options)
+    (always_judged (WordsAsk words) WordsRefused (λ fault h. standing))
+    (λ request. always_command request.command source request.options)
+
+always_told_or : (topic : Option Topic) (next : Stage (List ℕ)) → Always next → Always (told_or topic next)
+always_told_or (Some topic) next h = always_gives (page_of topic)
+always_told_or None next h = h
 
 always_outcome : (words : List (List ℕ)) (source : Source) → Always (outcome words source)
 always_outcome words source =
-    always_then (requested (codes "station" ∷ words)) (λ request. outcome_of request.command source request.options)
-    (always_judged (WordsAsk (codes "station" ∷ words)) WordsRefused (λ fault h. standing))
-    (λ request. always_command request.command source request.options)
+    always_told_or (topic_of (codes "station" ∷ words)) (commanded (codes "station" ∷ words) source) (always_commanded (codes "station" ∷ words) source)
+
+-- a run that wrote the text of its stage
+pub ends_text : (stage : Stage (List ℕ)) (text : List ℕ) (out : Written) (status : Status) → stage (Ok text) → Ends (gives text) out status → Ends stage out status
+ends_text stage text out Done h e = (e.0, subst stage (sym e.1) h, e.2)
+ends_text stage text out WriteFault h e = (e.0, (e.1.0, subst stage (sym e.1.1) h, e.1.2))
+ends_text stage text out NoMemory h e = e
+ends_text stage text out status h e = absurd (no_error status text e.0)
+  where
+    no_error : (s : Status) (t : List ℕ) → ◌≡◌ {A = Result (List ℕ) Status} (Err s) (Ok t) → ⊥
+    no_error s t k = cc
 
 -- a run that was refused, and wrote nothing
 pub ends_refused : {X : Type 0} (view : X → List ℕ) (words : List (List ℕ)) (source : Source) (out : Written) (status : Status)

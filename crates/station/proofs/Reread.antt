@@ -1,6 +1,6 @@
 -- A kernel with the block of a publication behind it gives the old triples, and the new ones behind them.
 use Rattle.std.proofs.Common.{◌≡◌, ◌≢◌, ℕ, ◌+◌, ◌*◌, ◌%◌, ◌^◌, ◌<◌, ◌≤◌, true, false, List, [], ◌∷◌, ◌++◌, length, map, Option, Some, None, refl, sym, ap, subst, ◌∙◌, arith, append_assoc, inl, inr}
-use Rattle.std.proofs.lemmas.Bool.{false≢true, cases_Bool, eqb-true, eqb-false}
+use Rattle.std.proofs.lemmas.Bool.{false≢true, cases_Bool}
 use Rattle.std.proofs.lemmas.Int.{ints}
 use Rattle.std.proofs.lemmas.List.Concat.{flat_map-append}
 use Rattle.std.proofs.lemmas.Slice.Eq.{bytes_eq-Decides}
@@ -17,14 +17,16 @@ use Rattle.sk_grammar.specs.Document.{ItemView, BlockView, DocView, is_text}
 use Rattle.sk_grammar.specs.Variables.{items_of, values_of, values_at, variables_of}
 use Rattle.sk_pool.proofs.Growing.{values_of-other, values_of-same, values_at-variables_of}
 use Rattle.sk_clock.specs.Clock.{ClockView, total}
-use Rattle.sk_triples.specs.Terms.{TripleView}
+use Rattle.sk_line.specs.Triple.{TripleView}
 use Rattle.sk_triples.specs.Kernel.{TriplesView, IsTriple, Rise, AreTriples}
-use Rattle.sk_triples.specs.Coefficients.{Row, row_values, rows_of, row_checks, values_for, triples_checks, AreTriplesOf, IsTripleOf, IsRowTime, IsRowRate}
-use Rattle.sk_triples.specs.Published.{reduced, triple_values, coefficients_name, id_items, coefficient_items, published_block, appended}
+use Rattle.sk_triples.specs.Coefficients.{Row, RowTime, Seconds, Calendar, time_value, row_values, rows_of, row_checks, values_for, triples_checks, AreTriplesOf, IsTripleOf, IsRowTime, IsRowRate}
+use Rattle.sk_publishing.specs.Published.{reduced, triple_values, id_items, coefficient_items, published_block, appended}
+use Rattle.sk_line.specs.Triple.{coefficients_name}
 use Rattle.sk_triples.specs.Reading.{ArePair, Follows, AreRead}
-use Rattle.sk_triples.specs.Values.{is_number}
-use Rattle.sk_triples.proofs.Threes.{rows_back, threes, are_numbers, are_threes}
-use Rattle.sk_triples.proofs.Decimals.{is_time, is_rate}
+use Rattle.sk_triples.specs.Values.{in_rows}
+use Rattle.sk_triples.proofs.Threes.{rows_back, threes, are_in_rows, are_threes}
+use Rattle.sk_triples.proofs.RowTimes.{has_form, is_row_time}
+use Rattle.sk_triples.proofs.Decimals.{is_rate}
 use Rattle.sk_triples.proofs.ReadRows.{in_order}
 use Rattle.sk_triples.proofs.KernelOf.{AreRows, accepted}
 use Rattle.sk_publication.proofs.Reduced.{reduced_units}
@@ -33,7 +35,7 @@ use Rattle.station.specs.Files.{TriplesOf}
 -- ---- the rows of the new triples
 
 abbrev row_of : TripleView → Row
-row_of t = record { ticks = reduced 0 (pos t.anchor.ticks); time = reduced 18 t.anchor.time; rate = reduced 18 t.rate }
+row_of t = record { ticks = reduced 0 (pos t.anchor.ticks); time = Seconds (reduced 18 t.anchor.time); rate = reduced 18 t.rate }
 
 values_are : (ts : List TripleView) → flat_map triple_values ts ≡ flat_map row_values (map row_of ts)
 values_are [] = refl
@@ -79,10 +81,10 @@ module _ (total : ℕ) where
       → NoneRefuses (row_checks total previous n row)
   row_passes previous before n row t pair of is follows =
       let sized : nat_abs t.anchor.time ≤ 10 ^ 28 = abs_within t.anchor.time (10 ^ 28) is.from is.to in
-      let time : IsRowTime row.time = is_time row.time of.time.0 (subst (λ (z : ℤ). nat_abs z ≤ 10 ^ 28) of.time.1 sized) in
+      let time : IsRowTime row.time = is_row_time row.time t.anchor.time of.time sized in
       let rate : IsRowRate row.rate =
       is_rate row.rate of.rate.0 (subst (λ (z : ℤ). pos 0 <ℤ z) of.rate.1 is.positive) (subst (λ (z : ℤ). z ≤ℤ pos (1000 * 10 ^ 18)) of.rate.1 is.slow) in
-      ((λ none. none t.anchor.ticks (of.ticks, is.ticks)), ((λ no. no time), ((λ no. no rate), (in_order previous before row t pair of follows, tt))))
+      ((λ none. none t.anchor.ticks (of.ticks, is.ticks)), (has_form row.time t.anchor.time of.time, ((λ no. no time), ((λ no. no rate), (in_order previous before row t pair of follows, tt)))))
 
   rows_pass : (previous : Option Row) (before : Option TripleView) (n : ℕ) (rows : List Row) (ts : List TripleView) → ArePair previous before → AllZip IsTripleOf rows ts
       → AllByRecursion (IsTriple total) ts → Leads before ts → Rise ts → NoneRefuses (each_after previous n (row_checks total) rows)
@@ -141,12 +143,9 @@ values_behind_block doc sc id new table =
 
 rows_if_some : (values : List Value) → (((rows : List Row) → values ≢ flat_map row_values rows) → ⊥) → AreRows values
 rows_if_some values some =
-    elim (cases_Bool (list_all is_number values)) [
-      | inl numbers ↦ elim (cases_Bool (length values % 3 == 0)) [
-        | inl whole ↦ threes values (eqb-true (length values % 3) 0 whole) numbers
-        | inr rest ↦ absurd (some (λ rows e. let three = are_threes values (own rows e) in let off = eqb-false (length values % 3) 0 rest in off (omega arith)))
-      ]
-      | inr others ↦ absurd (some (λ rows e. false≢true (sym others ∙ are_numbers values (own rows e))))
+    elim (cases_Bool (in_rows values)) [
+      | inl rows ↦ threes values rows
+      | inr others ↦ absurd (some (λ rows e. false≢true (sym others ∙ are_in_rows values (own rows e))))
     ]
   where
     own : (rows : List Row) → values ≡ flat_map row_values rows → AreRows values
@@ -158,7 +157,11 @@ found_at (Some x) values e some = ap Some e
 
 rows_plain : (rows : List Row) → list_any is_text (flat_map row_values rows) ≡ false
 rows_plain [] = refl
-rows_plain (row ∷ rows) = rows_plain rows
+rows_plain (row ∷ rows) = time_plain row.time (flat_map row_values rows) ∙ rows_plain rows
+  where
+    time_plain : (time : RowTime) (values : List Value) → list_any is_text (time_value time ∷ values) ≡ list_any is_text values
+    time_plain (Seconds number) values = refl
+    time_plain (Calendar date) values = refl
 
 -- the old coefficients are no texts
 pub old_plain : (doc : DocView) (clock : ClockView) (sc : ℕ) (old : TriplesView) → TriplesOf (variables_of (items_of doc)) clock sc (Ok old)

@@ -22,8 +22,9 @@ use Rattle.sk_clock.specs.declared.fault.ClockName.TheVariants.{DataType, Fields
 use Rattle.sk_clock.specs.Clock.{ClockView}
 use Rattle.sk_clock.specs.declared.partition.Partition.{Partition}
 use Rattle.sk_clock.specs.Kernel.{name_of, time_system, HasModuli, HasOffsets, HasPartitions}
-use Rattle.sk_triples.specs.Terms.{TripleView}
-use Rattle.sk_triples.specs.Published.{triple_values, coefficients_name, id_items, coefficient_items}
+use Rattle.sk_line.specs.Triple.{TripleView}
+use Rattle.sk_publishing.specs.Published.{triple_values, id_items, coefficient_items}
+use Rattle.sk_line.specs.Triple.{coefficients_name}
 use Rattle.station.specs.Files.{ClockOf, PoolOf}
 
 -- ---- one item more

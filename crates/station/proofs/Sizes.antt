@@ -1,6 +1,6 @@
 -- A text of so many bytes spells no more items and values.
-use Rattle.std.proofs.Common.{rules, ◌≡◌, ◌⊎◌, ℕ, ◌+◌, ◌-◌, ◌*◌, ◌^◌, ◌<◌, ◌≤◌, min, Bool, true, false, cond, List, [], ◌∷◌, ◌++◌, length, take, map, filter, refl, sym, ap, subst, inl, inr, ◌∙◌, arith, length-append}
-use Rattle.std.specs.Prelude.{codes, All, ◌==◌}
+use Rattle.std.proofs.Common.{◌≡◌, ℕ, ◌+◌, ◌-◌, ◌^◌, ◌<◌, ◌≤◌, Bool, true, false, cond, List, [], ◌∷◌, ◌++◌, length, map, filter, refl, ap, inl, inr, arith, length-append}
+use Rattle.std.specs.Prelude.{codes, ◌==◌}
 use Rattle.std.specs.List.{slice_split, onto_first, join_with_byte, suffix_len, flat_map, list_any, AllByRecursion as ByRecursion}
 use Rattle.std.specs.Str.{bytes_eq}
 use Rattle.std.proofs.lemmas.List.{length-take}
@@ -11,7 +11,7 @@ use Rattle.sk_grammar.specs.Document.{ItemView, BlockView, DocView}
 use Rattle.sk_grammar.specs.declared.value.Value.{Value}
 use Rattle.sk_grammar.specs.declared.value.Op.{Op}
 use Rattle.sk_grammar.specs.declared.value.Op.TheVariants.{Set, Append}
-use Rattle.sk_grammar.specs.Spelling.{SpellsValues, SpellsSingle, SpellsVector, SpellsOpening, SpellsItem, SpellsItems, SpellsBlocks, SpellsLines, Spells, sign_of}
+use Rattle.sk_grammar.specs.Spelling.{SpellsValues, SpellsVector, SpellsOpening, SpellsItem, SpellsItems, SpellsBlocks, SpellsLines, Spells, sign_of}
 use Rattle.sk_grammar.specs.Variables.{VariableView, items_of, variables_of, names_of, values_of, assigning, from_last_set, is_set, IsCounted}
 use Rattle.station.specs.Files.{HasFew}
 

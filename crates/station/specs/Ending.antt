@@ -1,5 +1,5 @@
 -- What a run has written when it ends, and how it ends.
-use Rattle.std.specs.Prelude.{◌≡◌, ◌⊎◌, ℕ, List, [], ◌∷◌, Result, Ok, Err, Option, Some, None, All, IsSome}
+use Rattle.std.specs.Prelude.{◌≡◌, ◌⊎◌, ℕ, List, Result, Ok, Err}
 use Rattle.std.specs.Io.KnownBytes.{Appends}
 use Rattle.sk_edge.specs.Transfer.{AppendsProperPrefix}
 use Rattle.sk_status.specs.declared.status.Status.{Status}
@@ -14,11 +14,7 @@ Ends outcome out WriteFault = out.rose × ((text : List ℕ) × outcome (Ok text
 Ends outcome out NoMemory = IsUntouched out
 Ends outcome out status = outcome (Err status) × IsUntouched out
 
--- the status of what a run comes to
-abbrev pub status_of : Result (List ℕ) Status → Status
-status_of (Ok text) = Done
-status_of (Err status) = status
-
--- the run ends so, or for want of memory
-abbrev pub EndsOrMemory : Status → Status → Type 0
-EndsOrMemory status expected = (status ≡ expected) ⊎ (status ≡ NoMemory)
+-- the run has ended as its files and words say
+abbrev pub HasEnded : Result (List ℕ) Status → Written → Status → Type 0
+HasEnded (Ok text) out status = (status ≡ Done) × Appends out.before out.after text
+HasEnded (Err expected) out status = (status ≡ expected) × IsUntouched out

@@ -1,5 +1,5 @@
 -- What the files of a run hold, and what each stage of reading them may answer.
-use Rattle.std.specs.Prelude.{◌≡◌, ◌⊎◌, ℕ, ◌^◌, ◌<◌, ◌≤◌, ℤ, List, [], ◌∷◌, length, Result, Ok, Err, Option, Some, None, IfSome, ⊤}
+use Rattle.std.specs.Prelude.{◌≡◌, ◌⊎◌, ℕ, ◌^◌, ◌<◌, ◌≤◌, List, [], length, Result, Ok, Err, Option, Some, None, IfSome}
 use Rattle.sk_checks.specs.Checks.{Judges}
 use Rattle.sk_grammar.specs.declared.fault.GrammarFault.{GrammarFault}
 use Rattle.sk_grammar.specs.declared.fault.GrammarFault.TheVariants as grammar
@@ -14,7 +14,7 @@ use Rattle.sk_pool.specs.Pool.{pool_checks}
 use Rattle.sk_leap.specs.declared.pair.LeapPair.{LeapPair}
 use Rattle.sk_leap.specs.declared.table.LeapFault.{LeapFault}
 use Rattle.sk_leap.specs.Kernel.{leap_checks, IsTableOf}
-use Rattle.sk_clock.specs.Row.{RowView}
+use Rattle.sk_publishing.specs.Row.{RowView}
 use Rattle.sk_clock.specs.Kernel.{clock_checks, IsClockOf}
 use Rattle.sk_clock.specs.declared.fault.ClockKernelFault.{ClockKernelFault}
 use Rattle.sk_obs.specs.declared.fault.ObsFault.{ObsFault}
@@ -24,40 +24,38 @@ use Rattle.sk_triples.specs.Kernel.{TriplesView}
 use Rattle.sk_triples.specs.Coefficients.{triples_checks, AreTriplesOf}
 use Rattle.sk_status.specs.declared.status.Status.{Status}
 use Rattle.sk_status.specs.declared.status.Status.TheVariants.{LeapRefused, KernelRefused, ObservationRefused, NewRefused, OverRefused, ReadFault}
+use Rattle.sk_status.specs.declared.status.DocumentKind.{DocumentKind}
+use Rattle.sk_status.specs.declared.status.DocumentKind.TheVariants.{Leap, Kernel, New, Over}
 use Rattle.sk_status.specs.declared.status.FileKind.{FileKind}
-use Rattle.sk_status.specs.declared.status.FileKind.TheVariants.{Leap, Kernel, Observations, New, Over}
+use Rattle.sk_status.specs.declared.status.FileKind.TheVariants.{Document, Observations}
 use Rattle.sk_status.specs.declared.status.LeapStop.TheVariants as leap_stop
 use Rattle.sk_status.specs.declared.status.KernelStop.TheVariants as kernel_stop
 use Rattle.sk_status.specs.declared.status.ObsStop.TheVariants as obs_stop
 use Rattle.sk_status.specs.declared.status.TextStop.TheVariants as text_stop
 use Rattle.sk_words.specs.declared.tables.OptionName.TheVariants as opt
 use Rattle.station.specs.Stage.{Stage, ◌>>=◌, gives}
+use Rattle.station.specs.Seen.{Source}
 use Rattle.sk_words.specs.Request.{Options, number_or, text_or}
 
 -- a file has at most this many bytes
 abbrev pub file_limit : ℕ
 file_limit = 16777216
 
--- The files by name, where they are known; how many bytes of the last one were read; and the names whose count of
--- faults rose in this run.
-pub record Source : Type 1 where
-  pub holds : List ℕ → Option (List ℕ)
-  pub given : ℕ
-  pub rose : List ℕ → Type 0
-
 -- the status of a file that is too long
-abbrev pub too_long : FileKind → Status
-too_long Leap = LeapRefused leap_stop.TooLong
-too_long Kernel = KernelRefused kernel_stop.TooLong
-too_long Observations = ObservationRefused obs_stop.TooLong
-too_long New = NewRefused text_stop.TooLong
-too_long (Over place) = OverRefused place text_stop.TooLong
+abbrev pub document_too_long : DocumentKind → Status
+document_too_long Leap = LeapRefused leap_stop.TooLong
+document_too_long Kernel = KernelRefused kernel_stop.TooLong
+document_too_long New = NewRefused text_stop.TooLong
+document_too_long (Over place) = OverRefused place text_stop.TooLong
 
--- the status of a file that is no kernel text; a file of observations is none
-abbrev pub refused_by : FileKind → GrammarFault → Status
+abbrev pub too_long : FileKind → Status
+too_long (Document kind) = document_too_long kind
+too_long Observations = ObservationRefused obs_stop.TooLong
+
+-- the status of a file that is no kernel text
+abbrev pub refused_by : DocumentKind → GrammarFault → Status
 refused_by Leap fault = LeapRefused (leap_stop.Grammar fault)
 refused_by Kernel fault = KernelRefused (kernel_stop.Grammar fault)
-refused_by Observations fault = KernelRefused (kernel_stop.Grammar fault)
 refused_by New fault = NewRefused (text_stop.Grammar fault)
 refused_by (Over place) fault = OverRefused place (text_stop.Grammar fault)
 
@@ -113,10 +111,10 @@ abbrev pub sc_of : Options → ℕ
 sc_of options = number_or 0 opt.Sc options
 
 -- the document of a file
-abbrev pub document : Source → FileKind → List ℕ → (GrammarFault → Status) → Stage DocView
-document source kind name refused = do
-  bytes ← reads source kind name
-  judged (DocOf bytes) refused
+abbrev pub document : Source → DocumentKind → List ℕ → Stage DocView
+document source kind name = do
+  bytes ← reads source (Document kind) name
+  judged (DocOf bytes) (refused_by kind)
 
 -- what the document of a leap second kernel means
 abbrev pub leap_pool : DocView → Stage (List VariableView)
@@ -134,7 +132,7 @@ leap_meaning doc = do
 abbrev pub leap_named : Source → Option (List ℕ) → Stage (List LeapPair)
 leap_named source None = gives []
 leap_named source (Some name) = do
-  doc ← document source Leap name (refused_by Leap)
+  doc ← document source Leap name
   leap_meaning doc
 
 abbrev pub leap_file : Source → Options → Stage (List LeapPair)
@@ -142,7 +140,7 @@ leap_file source options = leap_named source (options opt.Leap)
 
 -- the document of the clock kernel, and what a document means as a clock kernel: its pool, its clock, its triples
 abbrev pub kernel_document : Source → Options → Stage DocView
-kernel_document source options = document source Kernel (text_or opt.Kernel options) (refused_by Kernel)
+kernel_document source options = document source Kernel (text_or opt.Kernel options)
 
 abbrev pub kernel_pool : DocView → Stage (List VariableView)
 kernel_pool doc = judged (PoolOf doc) (λ f. KernelRefused (kernel_stop.Pool f))
@@ -169,7 +167,32 @@ kernel_file source options = do
 abbrev pub observed : List ℕ → ClockView → List LeapPair → Stage (List RowView)
 observed bytes clock leap = judged (ObservationsOf bytes clock leap) (λ f. ObservationRefused (obs_stop.Record f))
 
-abbrev pub observation_file : Source → Options → ClockView → List LeapPair → Stage (List RowView)
-observation_file source options clock leap = do
+-- ---- what commands read
+
+-- the leap table and the clock kernel
+pub record OpenedRead : Type 0 where
+  pub leap : List LeapPair
+  pub kernel : KernelRead
+
+abbrev pub opened_read : Source → Options → Stage OpenedRead
+opened_read source options = do
+  leap ← leap_file source options
+  kernel ← kernel_file source options
+  gives (record { leap = leap; kernel = kernel })
+
+-- the observations, by the leap table and the clock kernel
+abbrev pub observation_file : Source → Options → OpenedRead → Stage (List RowView)
+observation_file source options opened = do
   bytes ← reads source Observations (text_or opt.Obs options)
-  observed bytes clock leap
+  observed bytes opened.kernel.clock opened.leap
+
+-- the clock kernel and the observations
+pub record InputsRead : Type 0 where
+  pub kernel : KernelRead
+  pub observations : List RowView
+
+abbrev pub inputs_read : Source → Options → Stage InputsRead
+inputs_read source options = do
+  opened ← opened_read source options
+  observations ← observation_file source options opened
+  gives (record { kernel = opened.kernel; observations = observations })

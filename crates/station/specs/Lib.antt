@@ -1,4 +1,5 @@
 pub mod Stage
+pub mod Seen
 pub mod Files
 pub mod Time
 pub mod Output
@@ -7,3 +8,4 @@ pub mod Outcome
 pub mod Ending
 pub mod Headline
 pub mod Publishing
+pub mod Uses

@@ -1,16 +1,17 @@
 -- What a run of each command comes to: the text that it writes, or the status that ends it first.
-use Rattle.std.specs.Prelude.{◌≡◌, ◌⊎◌, ℕ, ◌+◌, ◌*◌, ◌^◌, ℤ, pos, ◌*ℤ◌, ◌≤ℤ◌, List, [], ◌∷◌, ◌++◌, codes, map, Result, Ok, Err, Option, Some, None, ⊤, option_map, slice_get, length, neg_ℤ, ◌<ℤ◌, unwrap_or}
+use Rattle.std.specs.Prelude.{◌≡◌, ℕ, ◌+◌, ◌^◌, ℤ, pos, ◌*ℤ◌, List, [], ◌∷◌, ◌++◌, codes, Result, Ok, Err, Option, Some, None, ⊤}
 use Rattle.std.specs.Option.{option_map_or}
 use Rattle.sk_grammar.specs.Canonical.{canonical_text, ended_by_line_feeds}
 use Rattle.sk_grammar.specs.Document.{DocView}
 use Rattle.sk_checks.specs.Checks.{Judges}
 use Rattle.sk_leap.specs.declared.pair.LeapPair.{LeapPair}
-use Rattle.sk_clock.specs.Row.{RowView}
+use Rattle.sk_publishing.specs.Row.{RowView}
 use Rattle.sk_clock.specs.Clock.{ClockView, total, lengths}
 use Rattle.sk_obs.specs.declared.fault.ClockWord.{ClockWord}
 use Rattle.sk_obs.specs.Words.{word_checks, IsClockWord, time_word, SaysTime}
-use Rattle.sk_triples.specs.Terms.{TripleView, sights}
-use Rattle.sk_triples.specs.Line.{covering}
+use Rattle.sk_line.specs.Triple.{TripleView}
+use Rattle.sk_publishing.specs.Terms.{sights}
+use Rattle.sk_line.specs.Line.{covering}
 use Rattle.sk_triples.specs.Kernel.{TriplesView, range_checks}
 use Rattle.sk_fit.specs.declared.chain.Chain.{Chain}
 use Rattle.sk_fit.specs.Causes.{Fits, input}
@@ -25,22 +26,24 @@ use Rattle.sk_audit.specs.Audit as aud
 use Rattle.sk_audit.specs.declared.verdict.AuditFault.{AuditFault}
 use Rattle.sk_audit.specs.declared.verdict.Verdict.TheVariants.{Yes, No}
 use Rattle.sk_excerpt.specs.Excerpt as ex
-use Rattle.sk_least.specs.declared.stretch.Stretch.{Stretch}
 use Rattle.sk_least.specs.Answer as cover
 use Rattle.sk_words.specs.declared.tables.Command.{Command}
-use Rattle.sk_words.specs.declared.tables.Command.TheVariants.{Publish, Residuals, Normal, Convert}
+use Rattle.sk_words.specs.declared.tables.Command.TheVariants.{Publish, Residuals, Normal, Convert, Invert}
 use Rattle.sk_status.specs.declared.status.Status.{Status}
-use Rattle.sk_status.specs.declared.status.Status.TheVariants.{WordsRefused, ObservationRefused, NotPublished, TimeRefused, AuditNo, NewRefused, ExcerptRefused, OverRefused, NoMemory}
-use Rattle.sk_status.specs.declared.status.FileKind.TheVariants.{New, Over}
+use Rattle.sk_status.specs.declared.status.Status.TheVariants.{WordsRefused, ObservationRefused, NotPublished, TimeRefused, AuditNo, ExcerptRefused, NoMemory}
+use Rattle.sk_status.specs.declared.status.DocumentKind.TheVariants.{New, Over}
 use Rattle.sk_status.specs.declared.status.ObsStop.TheVariants as obs_stop
-use Rattle.sk_status.specs.declared.status.TextStop.TheVariants as text_stop
 use Rattle.sk_status.specs.declared.status.TimeStop.{TimeStop}
 use Rattle.sk_status.specs.declared.status.TimeStop.TheVariants as time_stop
 use Rattle.sk_words.specs.declared.tables.OptionName.TheVariants as opt
 use Rattle.sk_words.specs.Asked.{Request, WordsAsk}
+use Rattle.sk_words.specs.Help.{page_of}
+use Rattle.sk_words.specs.Topics.{topic_of}
+use Rattle.sk_words.specs.declared.topic.Topic.{Topic}
 use Rattle.station.specs.Stage.{Stage, ◌>>=◌, gives, some}
 use Rattle.sk_words.specs.Request.{Options, number_or, text_or, over_names}
-use Rattle.station.specs.Files.{Source, reads, judged, document, leap_file, kernel_document, kernel_meaning, kernel_file, observation_file, KernelRead, sc_of}
+use Rattle.station.specs.Seen.{Source}
+use Rattle.station.specs.Files.{judged, document, kernel_document, kernel_meaning, KernelRead, OpenedRead, InputsRead, opened_read, inputs_read, sc_of}
 use Rattle.station.specs.Output.{settings_of, plain_table, published_doc, tick_fields, time_by, line_of, least_text, new_kernel}
 use Rattle.station.specs.Time.{time_stops, IsUtcWord}
 use Rattle.station.specs.Sample.{sample_triples, sample_clock, sample_rows, sample_fields}
@@ -73,27 +76,37 @@ chain_of options kernel observations =
 
 -- ---- the commands
 
+-- the published kernel
+abbrev pub publish_of : Options → InputsRead → Stage (List ℕ)
+publish_of options inputs = do
+  chain ← chain_of options inputs.kernel inputs.observations
+  covers ← all_covered (new_kernel inputs.kernel chain) inputs.observations
+  gives (canonical_text (published_doc options inputs.kernel inputs.observations chain))
+
 abbrev pub publish : Source → Options → Stage (List ℕ)
 publish source options = do
-  leap ← leap_file source options
-  kernel ← kernel_file source options
-  observations ← observation_file source options kernel.clock leap
-  chain ← chain_of options kernel observations
-  covers ← all_covered (new_kernel kernel chain) observations
-  gives (canonical_text (published_doc options kernel observations chain))
+  inputs ← inputs_read source options
+  publish_of options inputs
+
+-- the table of the observations
+abbrev pub residuals_of : InputsRead → Stage (List ℕ)
+residuals_of inputs = do
+  lines ← tabled inputs.kernel inputs.observations
+  gives (ended_by_line_feeds lines)
 
 abbrev pub residuals : Source → Options → Stage (List ℕ)
 residuals source options = do
-  leap ← leap_file source options
-  kernel ← kernel_file source options
-  observations ← observation_file source options kernel.clock leap
-  lines ← tabled kernel observations
-  gives (ended_by_line_feeds lines)
+  inputs ← inputs_read source options
+  residuals_of inputs
+
+-- the canonical text of a kernel
+abbrev pub normal_of : DocView → Stage (List ℕ)
+normal_of doc = gives (canonical_text doc)
 
 abbrev pub normal : Source → Options → Stage (List ℕ)
 normal source options = do
   doc ← kernel_document source options
-  gives (canonical_text doc)
+  normal_of doc
 
 -- what clock words and time words come to
 abbrev pub TickOf : List ℕ → ClockView → Result ℕ ClockWord → Type 0
@@ -113,12 +126,15 @@ converted leap kernel tick = do
   utc ← some (IsUtcWord leap (time_by kernel triple tick))
   gives (line_of (tick_fields kernel triple tick ++ utc ∷ []))
 
+abbrev pub convert_of : Options → OpenedRead → Stage (List ℕ)
+convert_of options opened = do
+  tick ← clock_tick (text_or opt.Clock options) opened.kernel.clock
+  converted opened.leap opened.kernel tick
+
 abbrev pub convert : Source → Options → Stage (List ℕ)
 convert source options = do
-  leap ← leap_file source options
-  kernel ← kernel_file source options
-  tick ← clock_tick (text_or opt.Clock options) kernel.clock
-  converted leap kernel tick
+  opened ← opened_read source options
+  convert_of options opened
 
 -- the publication of the sample's observations
 abbrev pub sample_of : ℕ → ℕ → Options → Stage (List ℕ)
@@ -139,14 +155,26 @@ ticked kernel time = judged
     (Judges (inverse_checks kernel.triples (time *ℤ pos (10 ^ 6))) (IsTickOf kernel.triples (time *ℤ pos (10 ^ 6))))
     status_of_time
 
-abbrev pub invert : Source → Options → Stage (List ℕ)
-invert source options = do
-  leap ← leap_file source options
-  kernel ← kernel_file source options
-  time ← judged (TimeOf (text_or opt.Time options) leap) TimeRefused
-  tick ← ticked kernel time
+-- the time of a time word
+abbrev pub said : List ℕ → List LeapPair → Stage ℤ
+said word leap = judged (TimeOf word leap) TimeRefused
+
+-- the line of a tick
+abbrev pub told : KernelRead → ℕ → Stage (List ℕ)
+told kernel tick = do
   triple ← covered kernel.triples 0 tick
   gives (line_of (tick_fields kernel triple tick))
+
+abbrev pub invert_of : Options → OpenedRead → Stage (List ℕ)
+invert_of options opened = do
+  time ← said (text_or opt.Time options) opened.leap
+  tick ← ticked opened.kernel time
+  told opened.kernel tick
+
+abbrev pub invert : Source → Options → Stage (List ℕ)
+invert source options = do
+  opened ← opened_read source options
+  invert_of options opened
 
 -- yes, or the fault
 abbrev pub verdict : aud.Audit → Stage ⊤
@@ -155,11 +183,9 @@ verdict audit (Err status) = (fault : AuditFault) × aud.Decides audit (No fault
 
 abbrev pub audit : Source → Options → Stage (List ℕ)
 audit source options = do
-  leap ← leap_file source options
-  kernel ← kernel_file source options
-  observations ← observation_file source options kernel.clock leap
-  doc ← document source New (text_or opt.New options) (λ f. NewRefused (text_stop.Grammar f))
-  accepted ← verdict (aud.audit_of kernel.doc doc kernel.clock kernel.triples (sc_of options) observations
+  inputs ← inputs_read source options
+  doc ← document source New (text_or opt.New options)
+  accepted ← verdict (aud.audit_of inputs.kernel.doc doc inputs.kernel.clock inputs.kernel.triples (sc_of options) inputs.observations
       (record {
         tolerance = (settings_of options).tolerance;
         rate_decimals = (settings_of options).rate_decimals;
@@ -174,7 +200,7 @@ audit source options = do
 abbrev pub over_documents : Source → ℕ → List (List ℕ) → Stage (List DocView)
 over_documents source place [] = gives []
 over_documents source place (name ∷ names) = do
-  doc ← document source (Over place) name (λ f. OverRefused place (text_stop.Grammar f))
+  doc ← document source (Over place) name
   docs ← over_documents source (place + 1) names
   gives (doc ∷ docs)
 
@@ -196,11 +222,9 @@ excerpt source options = do
 
 abbrev pub least : Source → Options → Stage (List ℕ)
 least source options = do
-  leap ← leap_file source options
-  kernel ← kernel_file source options
-  observations ← observation_file source options kernel.clock leap
-  stretches ← some (cover.AreLeast (lengths kernel.clock) (settings_of options).tolerance.units (sights observations))
-  gives (least_text observations stretches)
+  inputs ← inputs_read source options
+  stretches ← some (cover.AreLeast (lengths inputs.kernel.clock) (settings_of options).tolerance.units (sights inputs.observations))
+  gives (least_text inputs.observations stretches)
 
 -- ---- the whole
 
@@ -209,13 +233,23 @@ outcome_of Publish = publish
 outcome_of Residuals = residuals
 outcome_of Normal = normal
 outcome_of Convert = convert
+outcome_of Invert = invert
 
 -- the words
 abbrev pub requested : List (List ℕ) → Stage Request
 requested words = judged (WordsAsk words) WordsRefused
 
--- The text that a run writes, or the first refusal.
-abbrev pub outcome : List (List ℕ) → Source → Stage (List ℕ)
-outcome words source = do
-  request ← requested (codes "station" ∷ words)
+-- what the words come to where they ask for a command, the first of which stands for the program's name
+abbrev pub commanded : List (List ℕ) → Source → Stage (List ℕ)
+commanded words source = do
+  request ← requested words
   outcome_of request.command source request.options
+
+-- the page of the topic, if there is one
+abbrev pub told_or : Option Topic → Stage (List ℕ) → Stage (List ℕ)
+told_or (Some topic) next = gives (page_of topic)
+told_or None next = next
+
+-- The text that a run writes, or the first refusal. Words that ask about the program have its page, and read no file.
+abbrev pub outcome : List (List ℕ) → Source → Stage (List ℕ)
+outcome words source = told_or (topic_of (codes "station" ∷ words)) (commanded (codes "station" ∷ words) source)

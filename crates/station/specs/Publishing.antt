@@ -1,7 +1,7 @@
 -- What follows the observations in a publication.
 use Rattle.std.specs.Prelude.{ℕ, List}
 use Rattle.sk_grammar.specs.Canonical.{canonical_text}
-use Rattle.sk_clock.specs.Row.{RowView}
+use Rattle.sk_publishing.specs.Row.{RowView}
 use Rattle.sk_fit.specs.declared.chain.Chain.{Chain}
 use Rattle.sk_words.specs.Request.{Options}
 use Rattle.station.specs.Stage.{Stage, ◌>>=◌, gives}

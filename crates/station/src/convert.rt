@@ -1,23 +1,19 @@
 //! The tick, the time and the UTC of a clock word.
-ghost use Rattle.std.specs.Prelude.{◌≡◌, [], ◌∷◌, List, ℕ, IfOk, decimal, string_bytes};
-ghost use Rattle.sk_edge.specs.Causes.{Rose, NoneFalls};
-ghost use Rattle.sk_edge.specs.Transfer.{SameFiles};
+ghost use Rattle.std.specs.Prelude.{◌≡◌, [], ◌∷◌, IfOk, decimal, string_bytes};
 ghost use Rattle.sk_decimal.specs.Fixed.{fixed_text};
 ghost use Rattle.sk_clock.specs.Clock.{clock_text};
-ghost use Rattle.sk_words.specs.Asked.{options_in, NeedsNumber};
+ghost use Rattle.sk_words.specs.Asked.{options_in};
 ghost use Rattle.station.specs.Stage.{MayAnswer};
-ghost use Rattle.station.specs.Files.{Source};
 ghost use Rattle.station.specs.Output.{line_of as line_of_fields};
 ghost use Rattle.station.specs.Time.{IsDated, IsUtcWord};
-ghost use Rattle.station.specs.Outcome.{convert as convert_stage, clock_tick as tick_stage, converted as converted_stage};
+ghost use Rattle.station.specs.Outcome.{convert_of, clock_tick as tick_stage, converted as converted_stage};
 
-use crate::files::{kernel_file, leap_file};
+use crate::inputs::Opened;
 use crate::kernel::Kernel;
 use crate::ticks::push_tick;
 use sk_checks::NoMemory;
 use sk_clock::Clock;
 use sk_decimal::Fixed;
-use sk_edge::Depot;
 use sk_leap::{LeapTable, print_utc};
 use sk_obs::{ClockWordStop, read_clock_word};
 use sk_report::time_of;
@@ -89,20 +85,11 @@ fn converted(alloc: Global, kernel: &Kernel, leap: &LeapTable, tick: u64) -> Res
 }
 
 /// What `convert` writes.
-pub fn convert<D: Depot>(alloc: Global, depot: &mut D, request: &Request) -> Result<Vec<u8>, Status>
-    requires { NeedsNumber request.now.command }
-    ensures same_files { SameFiles (D.holds depot.old) (D.holds depot.new) }
-    ensures counts { NoneFalls (D.faults depot.old) (D.faults depot.new) }
-    ensures stage { let source : Source = record {
-      holds = D.holds depot.old;
-      given = D.given depot.new;
-      rose = λ name. Rose (D.faults depot.old name) (D.faults depot.new name);
-    } in
-        MayAnswer (λ v. v.items) (convert_stage source (options_in request.now)) result }
+pub fn convert(alloc: Global, request: &Request, opened: Opened) -> Result<Vec<u8>, Status>
+    ensures { MayAnswer (λ v. v.items) (convert_of (options_in request.now) opened) result }
 {
-    let leap = leap_file(alloc, depot, request)?;
-    let kernel = kernel_file(alloc, depot, request)?;
+    let kernel = &opened.kernel;
     let word = request.text_or_empty(OptionName::Clock);
     let tick = clock_tick(alloc, word, &kernel.clock)?;
-    converted(alloc, &kernel, &leap, tick)
+    converted(alloc, kernel, &opened.leap, tick)
 }

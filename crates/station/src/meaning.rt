@@ -3,7 +3,7 @@ ghost use Rattle.std.specs.Prelude.{◌≡◌, IfOk};
 ghost use Rattle.std.specs.Int.{IsInRange};
 ghost use Rattle.sk_grammar.specs.Variables.{IsCounted, items_of, variables_of};
 ghost use Rattle.sk_clock.specs.Clock.{total};
-ghost use Rattle.sk_clock.specs.Row.{AreRows};
+ghost use Rattle.sk_publishing.specs.Row.{AreRows};
 ghost use Rattle.sk_triples.specs.Kernel.{AreOf};
 ghost use Rattle.station.specs.Stage.{MayAnswer};
 ghost use Rattle.station.specs.Files.{HasFew, leap_pool as leap_pool_stage, leap_table as leap_table_stage, leap_meaning as leap_stage, kernel_pool as pool_stage, kernel_clock as clock_stage, kernel_triples as triples_stage, kernel_meaning as kernel_stage, observed as observed_stage};

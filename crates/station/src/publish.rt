@@ -1,30 +1,27 @@
 //! The published kernel.
-ghost use Rattle.std.specs.Prelude.{◌≡◌, ◌<◌, ◌++◌, All, List as Sequence, ℕ, ℤ, IfOk, Some, length, nat_abs};
-ghost use Rattle.sk_edge.specs.Causes.{Rose, NoneFalls};
-ghost use Rattle.sk_edge.specs.Transfer.{SameFiles};
+ghost use Rattle.std.specs.Prelude.{◌≡◌, ◌++◌, All, List as Sequence, IfOk, Some, length};
 ghost use Rattle.sk_grammar.specs.Canonical.{canonical_text};
 ghost use Rattle.sk_grammar.specs.Document.{IsTextLine};
 ghost use Rattle.sk_clock.specs.Clock.{total};
-ghost use Rattle.sk_clock.specs.Row.{AreRows};
-ghost use Rattle.sk_triples.specs.Terms.{TripleView};
+ghost use Rattle.sk_publishing.specs.Row.{AreRows};
+ghost use Rattle.sk_line.specs.Triple.{TripleView};
 ghost use Rattle.sk_triples.specs.Kernel.{AreOf, AreTriples};
-ghost use Rattle.sk_triples.specs.Published.{appended, published_block};
+ghost use Rattle.sk_publishing.specs.Published.{appended, published_block};
 ghost use Rattle.sk_fit.specs.Given.{AreSettings, new_triples_of};
 ghost use Rattle.sk_report.specs.Report.{IsChainOver, table_of};
 ghost use Rattle.sk_publication.specs.Publication.{HasNumbers};
 ghost use Rattle.sk_words.specs.Asked.{options_in, NeedsNumber};
 ghost use Rattle.station.specs.Stage.{MayAnswer};
-ghost use Rattle.station.specs.Files.{Source, sc_of};
+ghost use Rattle.station.specs.Files.{sc_of};
 ghost use Rattle.station.specs.Output.{settings_of as settings_by, dated, new_kernel};
-ghost use Rattle.station.specs.Outcome.{publish as publish_stage, chain_of as chain_stage, all_covered};
-ghost use Rattle.station.specs.Publishing.{after_chain, after_rows};
+ghost use Rattle.station.specs.Outcome.{publish_of, chain_of as chain_stage, all_covered};
+ghost use Rattle.station.specs.Publishing.{after_chain};
 
-use crate::files::{kernel_file, leap_file, observation_file};
+use crate::inputs::Inputs;
 use crate::kernel::Kernel;
 use sk_checks::NoMemory;
 use sk_clock::Clock;
 use sk_decimal::Fixed;
-use sk_edge::Depot;
 use sk_fit::{Chain, FitFault, Settings, fit};
 use sk_grammar::{Doc, Lines, List};
 use sk_obs::Observation;
@@ -160,35 +157,12 @@ fn published_text(
     Ok(text)
 }
 
-/// What is published of the observations.
-fn published(
-    alloc: Global,
-    request: &Request,
-    kernel: Kernel,
-    observations: List<Observation>,
-) -> Result<Vec<u8>, Status>
-    requires number { NeedsNumber request.now.command }
-    requires rows { AreRows (total kernel.clock) observations }
-    ensures { MayAnswer (λ v. v.items) (after_rows (options_in request.now) kernel observations) result }
-{
-    let chain = chain_of(alloc, request, &kernel, observations.as_slice())?;
-    published_text(alloc, request, kernel, observations, &chain)
-}
-
 /// What `publish` writes.
-pub fn publish<D: Depot>(alloc: Global, depot: &mut D, request: &Request) -> Result<Vec<u8>, Status>
+pub fn publish(alloc: Global, request: &Request, inputs: Inputs) -> Result<Vec<u8>, Status>
     requires { NeedsNumber request.now.command }
-    ensures same_files { SameFiles (D.holds depot.old) (D.holds depot.new) }
-    ensures counts { NoneFalls (D.faults depot.old) (D.faults depot.new) }
-    ensures stage { let source : Source = record {
-      holds = D.holds depot.old;
-      given = D.given depot.new;
-      rose = λ name. Rose (D.faults depot.old name) (D.faults depot.new name);
-    } in
-        MayAnswer (λ v. v.items) (publish_stage source (options_in request.now)) result }
+    ensures { MayAnswer (λ v. v.items) (publish_of (options_in request.now) inputs) result }
 {
-    let leap = leap_file(alloc, depot, request)?;
-    let kernel = kernel_file(alloc, depot, request)?;
-    let observations = observation_file(alloc, depot, request, &kernel, &leap)?;
-    published(alloc, request, kernel, observations)
+    let rows = inputs.observations.as_slice();
+    let chain = chain_of(alloc, request, &inputs.kernel, rows)?;
+    published_text(alloc, request, inputs.kernel, inputs.observations, &chain)
 }

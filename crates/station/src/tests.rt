@@ -18,19 +18,19 @@ pub const TRIPLE: &str = "SCLK01_COEFFICIENTS_99 = (\n0 0 1\n)\n\\begintext\n";
 
 const LATER: &str = "SCLK01_COEFFICIENTS_99 = (\n256 1 1\n)\n\\begintext\n";
 
-const SYSTEM: &str = "SCLK01_N_FIELDS_99 = 2\nSCLK01_MODULI_99 = (\n4294967296 256\n)\n";
+pub const SYSTEM: &str = "SCLK01_N_FIELDS_99 = 2\nSCLK01_MODULI_99 = (\n4294967296 256\n)\n";
 
 /// A first partition of 1,000,000 ticks, and a second one.
 pub const SPANS: &str =
     "SCLK_PARTITION_START_99 = (\n0 0\n)\nSCLK_PARTITION_END_99 = (\n1000000 1099511627775\n)\n";
 
 /// A time before J2000, and a rate of which no tick takes whole picoseconds.
-const EARLY: &str = "SCLK01_COEFFICIENTS_99 = (\n0 -1 1.000000000001\n)\n\\begintext\n";
+pub const EARLY: &str = "SCLK01_COEFFICIENTS_99 = (\n0 -1 1.000000000001\n)\n\\begintext\n";
 
 /// A time before any leap seconds, and one past 9·10^9 s.
 const FAR: &str = "SCLK01_COEFFICIENTS_99 = (\n0 -1000000000 1\n256 9500000000 1\n)\n\\begintext\n";
 
-const LEAPS: &str =
+pub const LEAPS: &str =
     "\\begindata\nDELTET/DELTA_T_A = 32.184\nDELTET/DELTA_AT = (\n31 @1997-JUL-1\n32 @1999-JAN-1\n33 @2006-JAN-1\n)\n\\begintext\n";
 
 pub const HEADER: &str = "id,clock,time,delay\n";
@@ -70,7 +70,7 @@ pub fn files(
 }
 
 /// An output with room for 300 bytes, which takes ten bytes a write.
-fn output(alloc: Global, failing: Vec<u64>) -> Result<MemorySink, AllocError> {
+pub fn output(alloc: Global, failing: Vec<u64>) -> Result<MemorySink, AllocError> {
     Ok(MemorySink::new(vec![in alloc; 10]?, failing, vec![in alloc; 0; 300]?))
 }
 
@@ -102,7 +102,7 @@ fn words_are_refused_in_their_order(rt: HostRuntime) -> Result<(), Fail> {
             &["residuals", "--kernel=k", "--kernel=k"],
             "refused;2;NotTaken\n",
         ),
-        (&["--help"], "refused;2;NotTaken\n"),
+        (&["normal", "--help"], "refused;2;NotTaken\n"),
     ];
     for (words, line) in table {
         let words = texts(alloc, words)?;

@@ -1,29 +1,32 @@
 //! The top call.
 
-ghost use Rattle.std.specs.Prelude.{◌≡◌, List, ℕ, Option, Some, Result, Ok, Err, map, string_bytes, IfOk, IsSome, All, codes, false, ◌∷◌};
+ghost use Rattle.std.specs.Prelude.{◌≡◌, ◌⊎◌, List, ℕ, Option, Some, Result, Ok, Err, map, string_bytes, IfOk, IfErr, IsSome, All, codes, false, ◌∷◌};
 ghost use Rattle.std.specs.Io.KnownBytes.{Appends};
-ghost use Rattle.sk_edge.specs.Causes.{Rose, NoneFalls};
-ghost use Rattle.sk_edge.specs.Transfer.{SameFiles};
+ghost use Rattle.sk_edge.specs.Causes.{Rose};
 ghost use Rattle.sk_words.specs.Words.{is_taken};
+ghost use Rattle.sk_words.specs.Help.{page_of};
 ghost use Rattle.sk_words.specs.Asked.{options_in, Request as Asked};
 ghost use Rattle.sk_words.specs.Request.{files_of};
 ghost use Rattle.station.specs.Stage.{MayAnswer, gives};
-ghost use Rattle.station.specs.Files.{Source};
-ghost use Rattle.station.specs.Outcome.{outcome, outcome_of, requested as requested_by};
-ghost use Rattle.station.specs.Ending.{Ends, EndsOrMemory, status_of};
+ghost use Rattle.station.specs.Seen.{seen_by, Stays};
+ghost use Rattle.station.specs.Outcome.{commanded, outcome, outcome_of, requested as requested_by};
+ghost use Rattle.station.specs.Ending.{Ends, HasEnded};
 ghost use Rattle.station.specs.Headline.{AreHeld, IsPublished};
-ghost use Rattle.sk_status.specs.Written.{Written, IsNoted};
+ghost use Rattle.sk_status.specs.Written.{written_by, IsNoted};
 ghost use Rattle.sk_status.specs.Notes.{CarriesNoMemory};
 ghost use Rattle.sk_status.specs.declared.status.Status.{Status as Ended};
 
 use crate::convert::convert;
+use crate::files::kernel_document;
+use crate::inputs::{read_inputs, read_opened};
+use crate::invert::invert;
 use crate::normal::normal;
 use crate::publish::publish;
 use crate::residuals::residuals;
 use sk_checks::NoMemory;
 use sk_edge::{Depot, Failed, Sink, write_all};
 use sk_status::{Status, write_note};
-use sk_words::{Command, Request, WordsFault, WordsStop, requested};
+use sk_words::{Command, Request, Topic, WordsFault, WordsStop, page, requested, topic_of};
 use std::alloc::Global;
 
 /// The words behind a word that stands for the program's name.
@@ -44,51 +47,60 @@ fn command_text<D: Depot>(
     depot: &mut D,
     request: &Request,
 ) -> Result<Vec<u8>, Status>
-    ensures same_files { SameFiles (D.holds depot.old) (D.holds depot.new) }
-    ensures counts { NoneFalls (D.faults depot.old) (D.faults depot.new) }
-    ensures stage { let source : Source = record {
-      holds = D.holds depot.old;
-      given = D.given depot.new;
-      rose = λ name. Rose (D.faults depot.old name) (D.faults depot.new name);
-    } in
-        MayAnswer (λ v. v.items) (outcome_of request.now.command source (options_in request.now)) result }
+    ensures stays { Stays D.holds D.faults depot.old depot.new }
+    ensures stage { MayAnswer (λ v. v.items) (outcome_of request.now.command (seen_by D.holds D.given D.faults depot.old depot.new) (options_in request.now)) result }
 {
     match request.command() {
-        Command::Publish => publish(alloc, depot, request),
-        Command::Residuals => residuals(alloc, depot, request),
-        Command::Normal => normal(alloc, depot, request),
-        Command::Convert => convert(alloc, depot, request),
+        Command::Publish => publish(alloc, request, read_inputs(alloc, depot, request)?),
+        Command::Residuals => residuals(alloc, read_inputs(alloc, depot, request)?),
+        Command::Normal => normal(alloc, kernel_document(alloc, depot, request)?),
+        Command::Convert => convert(alloc, request, read_opened(alloc, depot, request)?),
+        Command::Invert => invert(alloc, request, read_opened(alloc, depot, request)?),
     }
 }
 
-/// What the words and the files come to.
-fn whole_text<D: Depot>(alloc: Global, words: &[String], depot: &mut D) -> Result<Vec<u8>, Status>
-    ensures stage { let source : Source = record {
-      holds = D.holds depot.old;
-      given = D.given depot.new;
-      rose = λ name. Rose (D.faults depot.old name) (D.faults depot.new name);
-    } in
-        MayAnswer (λ v. v.items) (outcome (map string_bytes words.now) source) result }
-    ensures not_taken { result ≡ Err (Status.WordsRefused WordsFault.NotTaken) → is_taken (codes "station" ∷ map string_bytes words.now) ≡ false }
+/// What the words come to where they ask for a command, the first of which stands for the program's name.
+fn asked_text<D: Depot>(alloc: Global, words: &[&str], depot: &mut D) -> Result<Vec<u8>, Status>
+    ensures stays { Stays D.holds D.faults depot.old depot.new }
+    ensures stage { MayAnswer (λ v. v.items) (commanded (map (λ w. w.now) words.now) (seen_by D.holds D.given D.faults depot.old depot.new)) result }
+    ensures not_taken { result ≡ Err (Status.WordsRefused WordsFault.NotTaken) → is_taken (map (λ w. w.now) words.now) ≡ false }
 {
-    let Ok(all) = station_words(alloc, words) else {
-        return Err(Status::NoMemory);
-    };
-    match requested(alloc, all.as_slice()) {
+    match requested(alloc, words) {
         Ok(request) => command_text(alloc, depot, &request),
         Err(WordsStop::Refused(fault)) => Err(Status::WordsRefused(fault)),
         Err(WordsStop::NoMemory) => Err(Status::NoMemory),
     }
 }
 
+/// The page of a topic.
+fn page_text(alloc: Global, topic: Topic) -> Result<Vec<u8>, Status>
+    ensures stage { MayAnswer (λ v. v.items) (gives (page_of topic)) result }
+    ensures memory { IfErr result (λ status. status ≡ Status.NoMemory) }
+{
+    match page(alloc, topic) {
+        Ok(text) => Ok(text),
+        Err(_) => Err(Status::NoMemory),
+    }
+}
+
+/// What the words and the files come to.
+fn whole_text<D: Depot>(alloc: Global, words: &[String], depot: &mut D) -> Result<Vec<u8>, Status>
+    ensures stays { Stays D.holds D.faults depot.old depot.new }
+    ensures stage { MayAnswer (λ v. v.items) (outcome (map string_bytes words.now) (seen_by D.holds D.given D.faults depot.old depot.new)) result }
+    ensures not_taken { result ≡ Err (Status.WordsRefused WordsFault.NotTaken) → is_taken (codes "station" ∷ map string_bytes words.now) ≡ false }
+{
+    let Ok(all) = station_words(alloc, words) else {
+        return Err(Status::NoMemory);
+    };
+    match topic_of(all.as_slice()) {
+        Some(topic) => page_text(alloc, topic),
+        None => asked_text(alloc, all.as_slice(), depot),
+    }
+}
+
 /// Writes the whole text.
 fn write_text<S: Sink>(out: &mut S, text: &[u8]) -> Status
-    ensures ends { let written : Written = record {
-      before = S.written out.old;
-      after = S.written out.new;
-      rose = Rose (S.faults out.old) (S.faults out.new);
-    } in
-        Ends (gives text.now) written result }
+    ensures ends { Ends (gives text.now) (written_by S.written S.faults out.old out.new) result }
     ensures apart { CarriesNoMemory result }
 {
     match write_all(out, text) {
@@ -99,17 +111,8 @@ fn write_text<S: Sink>(out: &mut S, text: &[u8]) -> Status
 
 /// Writes what the words and the files come to; nothing where they are refused.
 fn ended<D: Depot, S: Sink>(alloc: Global, words: &[String], depot: &mut D, out: &mut S) -> Status
-    ensures ends { let source : Source = record {
-      holds = D.holds depot.old;
-      given = D.given depot.new;
-      rose = λ name. Rose (D.faults depot.old name) (D.faults depot.new name);
-    } in
-        let written : Written = record {
-          before = S.written out.old;
-          after = S.written out.new;
-          rose = Rose (S.faults out.old) (S.faults out.new);
-        } in
-        Ends (outcome (map string_bytes words.now) source) written result }
+    ensures stays { Stays D.holds D.faults depot.old depot.new }
+    ensures ends { Ends (outcome (map string_bytes words.now) (seen_by D.holds D.given D.faults depot.old depot.new)) (written_by S.written S.faults out.old out.new) result }
     ensures not_taken { result ≡ Status.WordsRefused WordsFault.NotTaken → is_taken (codes "station" ∷ map string_bytes words.now) ≡ false }
     ensures apart { CarriesNoMemory result }
 {
@@ -129,26 +132,16 @@ pub fn run<D: Depot, S: Sink, N: Sink>(
 ) -> Status
     // What is written is the text that the words and the files come to, whole or a prefix where the output failed;
     // each other status is the first refusal, or a fault of reading, and then nothing is written.
-    ensures ends { let source : Source = record {
-      holds = D.holds depot.old;
-      given = D.given depot.new;
-      rose = λ name. Rose (D.faults depot.old name) (D.faults depot.new name);
-    } in
-        let written : Written = record {
-          before = S.written out.old;
-          after = S.written out.new;
-          rose = Rose (S.faults out.old) (S.faults out.new);
-        } in
-        Ends (outcome (map string_bytes words.now) source) written result }
+    ensures ends { Ends (outcome (map string_bytes words.now) (seen_by D.holds D.given D.faults depot.old depot.new)) (written_by S.written S.faults out.old out.new) result }
 
-    // Where no count rose and the files are known, the run ends as they say, unless memory runs out.
+    // Where no count rose and the files are known, the run ends with the bytes or the refusal that they say, unless memory runs out.
     ensures complete { (request : Asked) (ended : Result (List ℕ) Ended)
         → requested_by (codes "station" ∷ map string_bytes words.now) (Ok request)
         → ((name : List ℕ) → ¬ Rose (D.faults depot.old name) (D.faults depot.new name))
         → (¬ Rose (S.faults out.old) (S.faults out.new))
         → All (λ name. IsSome (D.holds depot.old name)) (files_of request.options)
         → outcome (map string_bytes words.now) (record { holds = D.holds depot.old; given = D.given depot.new; rose = λ name. ⊥ }) ended
-        → EndsOrMemory result (status_of ended) }
+        → HasEnded ended (written_by S.written S.faults out.old out.new) result ⊎ (result ≡ Status.NoMemory) }
 
     // A publication that ends with status 0 writes a kernel in which every old triple stands, each kept new observation
     // lies within the tolerance, time falls only at joins where the old kernel fell, and a new triple begins only where
@@ -160,6 +153,20 @@ pub fn run<D: Depot, S: Sink, N: Sink>(
         → (written : List ℕ) × Appends (S.written out.old) (S.written out.new) written
         × IsPublished request.options leap_bytes kernel_bytes observation_bytes written }
 
+    // Where no count rose, these bytes are appended and the run ends with status 0 wherever the bytes are what the options
+    // and the files publish, unless memory runs out: what is published is never refused.
+    ensures exactly { (request : Asked) (leap_bytes : Option (List ℕ)) (kernel_bytes observation_bytes bytes : List ℕ)
+        → requested_by (codes "station" ∷ map string_bytes words.now) (Ok request)
+        → request.command ≡ Command.Publish
+        → ((name : List ℕ) → ¬ Rose (D.faults depot.old name) (D.faults depot.new name))
+        → (¬ Rose (S.faults out.old) (S.faults out.new))
+        → AreHeld (D.holds depot.old) request.options leap_bytes kernel_bytes observation_bytes
+        → IsPublished request.options leap_bytes kernel_bytes observation_bytes bytes
+        → ((result ≡ Status.Done) × Appends (S.written out.old) (S.written out.new) bytes) ⊎ (result ≡ Status.NoMemory) }
+
+    // Files hold what they held, and no count falls: a run may follow another over the same depot.
+    ensures stays { Stays D.holds D.faults depot.old depot.new }
+
     // Want of memory is status 9, and no other status carries it.
     ensures apart { CarriesNoMemory result }
 
@@ -167,12 +174,7 @@ pub fn run<D: Depot, S: Sink, N: Sink>(
     ensures not_taken { result ≡ Status.WordsRefused WordsFault.NotTaken → is_taken (codes "station" ∷ map string_bytes words.now) ≡ false }
 
     // Status 0 notes nothing, and each other status its line.
-    ensures noted { let noted : Written = record {
-      before = N.written notes.old;
-      after = N.written notes.new;
-      rose = Rose (N.faults notes.old) (N.faults notes.new);
-    } in
-        IsNoted noted result }
+    ensures noted { IsNoted (written_by N.written N.faults notes.old notes.new) result }
 {
     let status = ended(alloc, words, depot, out);
     write_note(notes, status);

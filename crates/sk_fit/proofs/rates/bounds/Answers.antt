@@ -3,8 +3,8 @@ use Rattle.std.proofs.lemmas.Int.{ints}
 use mir.Syntax.{w128}
 use mir.Val.{to_z, of_z}
 use Rattle.std.specs.Prelude.{ℤ, pos, neg_ℤ, ◌≤ℤ◌}
-use Rattle.sk_triples.specs.Rates.{InBand, IsLeastRate, IsGreatestRate}
-use Rattle.sk_clock.specs.Row.{RowView}
+use Rattle.sk_publishing.specs.Rates.{InBand, IsLeastRate, IsGreatestRate}
+use Rattle.sk_publishing.specs.Row.{RowView}
 use Rattle.sk_fit.specs.Given.{band_view, gauge_of, anchor_of, sight_at}
 use Rattle.sk_fit.proofs.Quotients.{least_rate_from, greatest_rate_from, wanted_at, room_at, step_at, slow_band, passed_on, passed_small, passed_seen, sized_from}
 use Rattle.sk_fit.proofs.rates.bounds.Goals as goal

@@ -3,7 +3,7 @@ use Rattle.std.proofs.lemmas.Int.{ints}
 use mir.Syntax.{w128}
 use mir.Val.{to_z, of_z}
 use Rattle.std.specs.Prelude.{ℤ, pos, neg_ℤ, ◌*ℤ◌, ◌≤ℤ◌}
-use Rattle.sk_clock.specs.Row.{RowView}
+use Rattle.sk_publishing.specs.Row.{RowView}
 use Rattle.sk_fit.specs.Given.{gauge_of, anchor_of, sight_at}
 use Rattle.sk_fit.proofs.Quotients.{meets_by, wanted_at, room_at, passed_on, passed_small, passed_seen, sized_from}
 use Rattle.sk_fit.proofs.rates.meets.Goals as goal

@@ -4,7 +4,7 @@ use Rattle.std.proofs.lemmas.List.{drop_all}
 use mir.Syntax.{w128}
 use mir.Val.{to_z, of_z}
 use Rattle.std.specs.Prelude.{ℤ, ◌≤ℤ◌}
-use Rattle.sk_clock.specs.Row.{RowView}
+use Rattle.sk_publishing.specs.Row.{RowView}
 use Rattle.sk_fit.specs.Given.{gauge_of, anchor_of, band_view}
 use Rattle.sk_fit.proofs.Quotients.{passed_on}
 use Rattle.sk_fit.proofs.Runs.{Reads, reads_more, reads_some}

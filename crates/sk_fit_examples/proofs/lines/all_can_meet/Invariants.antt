@@ -1,5 +1,5 @@
 use Rattle.std.proofs.Common.{ℕ, ◌<◌, get_or}
-use Rattle.sk_clock.specs.Row.{RowView}
+use Rattle.sk_publishing.specs.Row.{RowView}
 use Rattle.sk_fit.specs.Given.{CanMeet}
 use Rattle.sk_fit_examples.proofs.lines.all_can_meet.Given as goal
 

@@ -3,7 +3,7 @@ use Rattle.std.specs.Prelude.{ℤ, pos, nat_abs, ◌≤ℤ◌, ◌<ℤ◌}
 use mir.Syntax.{w128}
 use mir.Val.{to_z, of_z}
 use Rattle.sk_decimal.specs.Fixed.{IsFloor}
-use Rattle.sk_triples.specs.Terms.{TripleView}
+use Rattle.sk_line.specs.Triple.{TripleView}
 use Rattle.sk_triples.proofs.Wide.{passed_on}
 use Rattle.sk_inverse.specs.Search.{IsReached}
 use Rattle.sk_inverse.proofs.Reached.{reached_end, reached_ahead}

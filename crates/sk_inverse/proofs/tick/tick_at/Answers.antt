@@ -4,7 +4,7 @@ use Rattle.std.specs.Prelude.{ℤ, pos, ◌*ℤ◌}
 use mir.Syntax.{w128}
 use mir.Val.{to_z, of_z}
 use Rattle.sk_checks.specs.Checks.{Judges}
-use Rattle.sk_triples.specs.Terms.{TripleView}
+use Rattle.sk_line.specs.Triple.{TripleView}
 use Rattle.sk_triples.specs.Kernel.{TriplesView}
 use Rattle.sk_triples.proofs.Wide.{passed_small}
 use Rattle.sk_inverse.specs.Inverse.{IsTickOf, inverse_checks}

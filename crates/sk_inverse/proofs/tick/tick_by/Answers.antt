@@ -1,6 +1,6 @@
 use Rattle.std.proofs.Common.{◌≡◌, ◌≢◌, ◌-◌, ℕ, refl, inl, inr, ap, subst, arith, rules}
 use Rattle.std.specs.Prelude.{ℤ, pos, ◌-ℤ◌, ◌*ℤ◌, ◌<ℤ◌}
-use Rattle.sk_triples.specs.Terms.{TripleView}
+use Rattle.sk_line.specs.Triple.{TripleView}
 use Rattle.sk_triples.proofs.Wide.{passed_on}
 use Rattle.sk_inverse.specs.Search.{HaveBegun, IsReached, kernel_of}
 use Rattle.sk_inverse.proofs.Found.{before_first, start_of, next_here, next_ticks, kept_triple, in_next, in_last, past_end, not_before_first}

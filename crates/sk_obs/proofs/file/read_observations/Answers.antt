@@ -1,7 +1,7 @@
 use Rattle.std.proofs.Common.{◌≡◌, ◌+◌, ℕ, Some, List, arith, subst, sym, inl, inr, rules}
 use Rattle.csv.specs.Records.{fields_of}
 use Rattle.sk_clock.specs.Clock.{total}
-use Rattle.sk_clock.specs.Row.{RowView}
+use Rattle.sk_publishing.specs.Row.{RowView}
 use Rattle.sk_obs.specs.File.{records_of, clock_of}
 use Rattle.sk_obs.specs.Reading.{rows_left}
 use Rattle.sk_obs.proofs.Files.{HasPassed, all_passed, own_refused, order_refused, passed_one}

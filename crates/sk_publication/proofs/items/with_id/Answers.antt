@@ -3,7 +3,7 @@ use Rattle.std.specs.Prelude.{IfOk, option_map}
 use Rattle.sk_grammar.specs.declared.value.Value.{Value}
 use Rattle.sk_grammar.specs.declared.value.Op.TheVariants.{Set}
 use Rattle.sk_grammar.specs.Document.{ItemView}
-use Rattle.sk_triples.specs.Published.{id_items}
+use Rattle.sk_publishing.specs.Published.{id_items}
 use Rattle.sk_publication.proofs.items.with_id.Goals as goal
 
 pub returns-clause-items : goal.returns-clause-items

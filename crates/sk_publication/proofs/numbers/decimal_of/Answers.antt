@@ -3,7 +3,7 @@ use Rattle.sk_decimal.specs.Number.{SpellsDecimal}
 use Rattle.sk_decimal.specs.Fixed.{fixed_text}
 use Rattle.sk_decimal.proofs.Exact.{one_decimal}
 use Rattle.sk_decimal.proofs.Printed.{fixed_text_spells}
-use Rattle.sk_triples.specs.Published.{reduced}
+use Rattle.sk_publishing.specs.Published.{reduced}
 use Rattle.sk_publication.proofs.Reduced.{reduced_decimal, reduced_units}
 use Rattle.sk_publication.proofs.numbers.decimal_of.Goals as goal
 

@@ -3,8 +3,8 @@ use Rattle.std.specs.Prelude.{pos}
 use Rattle.std.proofs.lemmas.Int.{to_z_pos}
 use mir.Syntax.{w128}
 use mir.Val.{to_z}
-use Rattle.sk_triples.specs.Terms.{TripleView}
-use Rattle.sk_triples.specs.Published.{reduced}
+use Rattle.sk_line.specs.Triple.{TripleView}
+use Rattle.sk_publishing.specs.Published.{reduced}
 use Rattle.sk_publication.proofs.NewTriples.{triple_pushed}
 use Rattle.sk_publication.proofs.numbers.push_triple.Goals as goal
 

@@ -1,6 +1,6 @@
 use Rattle.std.proofs.Common.{ℕ, ◌<◌, length, Option, sym, subst, Bor}
 use Rattle.std.specs.Option.{option_map}
-use Rattle.sk_triples.specs.Terms.{sights}
+use Rattle.sk_publishing.specs.Terms.{sights}
 use Rattle.sk_fit.specs.declared.chain.Chain.{Chain}
 use Rattle.sk_fit.specs.Given.{chain_view}
 use Rattle.sk_report.specs.Marks.{Tells}

@@ -5,8 +5,8 @@ use Rattle.std.proofs.lemmas.List.{take_all}
 use Rattle.std.proofs.lemmas.List.Elements.{All-nil, All-more}
 use Rattle.sk_checks.specs.Checks.{FirstRefuses, NoneRefuses}
 use Rattle.sk_grammar.specs.Lines.{is_line_feed}
-use Rattle.sk_clock.specs.Row.{RowView}
-use Rattle.sk_triples.specs.Table.{kernel_view, row_line, row_lines_from, kind_text}
+use Rattle.sk_publishing.specs.Row.{RowView}
+use Rattle.sk_publishing.specs.Table.{kernel_view, row_line, row_lines_from, kind_text}
 use Rattle.sk_report.specs.Report.{table_checks}
 use Rattle.sk_report.specs.Line.{fields_of, IsLined}
 use Rattle.sk_report.specs.Marks.{end_words, kind_word}

@@ -1,7 +1,7 @@
 use Rattle.std.proofs.Common.{◌≡◌, ℕ, ◌<◌, ◌++◌, length, take, Option}
 use Rattle.std.specs.List.{All}
 use Rattle.sk_checks.specs.Checks.{NoneRefuses}
-use Rattle.sk_triples.specs.Table.{ChainView, kernel_view, row_lines_from}
+use Rattle.sk_publishing.specs.Table.{ChainView, kernel_view, row_lines_from}
 use Rattle.sk_report.specs.Report.{table_checks}
 use Rattle.sk_report.specs.Line.{IsLined}
 use Rattle.sk_report.specs.Marks.{Tells}

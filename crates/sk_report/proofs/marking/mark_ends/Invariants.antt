@@ -1,5 +1,5 @@
 use Rattle.std.proofs.Common.{◌≡◌, ℕ, List, length, take}
-use Rattle.sk_clock.specs.Row.{RowView}
+use Rattle.sk_publishing.specs.Row.{RowView}
 use Rattle.sk_report.specs.Ends.{IsMarked, AreEnds}
 use Rattle.sk_report.proofs.marking.mark_ends.Given as goal
 

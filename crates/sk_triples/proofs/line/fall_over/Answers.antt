@@ -3,8 +3,8 @@ use Rattle.std.proofs.lemmas.Int.{ints}
 use Rattle.std.specs.Prelude.{pos, ◌-ℤ◌, ◌*ℤ◌}
 use mir.Syntax.{w128}
 use mir.Val.{to_z, of_z}
-use Rattle.sk_triples.specs.Terms.{TripleView}
-use Rattle.sk_triples.specs.Line.{line_over}
+use Rattle.sk_line.specs.Triple.{TripleView}
+use Rattle.sk_line.specs.Line.{line_over}
 use Rattle.sk_triples.proofs.Wide.{passed_on, passed_small}
 use Rattle.sk_triples.proofs.line.fall_over.Goals as goal
 

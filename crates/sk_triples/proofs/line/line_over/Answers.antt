@@ -3,7 +3,7 @@ use Rattle.std.proofs.lemmas.Int.{ints}
 use Rattle.std.specs.Prelude.{pos, ◌+ℤ◌, ◌*ℤ◌}
 use mir.Syntax.{w128}
 use mir.Val.{to_z, of_z}
-use Rattle.sk_triples.specs.Terms.{TripleView}
+use Rattle.sk_line.specs.Triple.{TripleView}
 use Rattle.sk_triples.proofs.Wide.{passed_on, passed_small}
 use Rattle.sk_triples.proofs.line.line_over.Goals as goal
 

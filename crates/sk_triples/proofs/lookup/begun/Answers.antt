@@ -1,6 +1,6 @@
 use Rattle.std.proofs.Common.{rules}
 use Rattle.std.proofs.lemmas.List.Sorted.{IsPartitionPoint-from_clause, IsPartitionedBy-leb}
-use Rattle.sk_triples.specs.Terms.{TripleView}
+use Rattle.sk_line.specs.Triple.{TripleView}
 use Rattle.sk_triples.proofs.Covering.{ticks_rise, has_begun, begun_is}
 use Rattle.sk_triples.proofs.lookup.begun.Goals as goal
 

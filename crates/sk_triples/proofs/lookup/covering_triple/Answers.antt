@@ -1,7 +1,7 @@
 use Rattle.std.proofs.Common.{◌≡◌, ◌≢◌, ℕ, Option, ap, sym, rules}
 use Rattle.std.specs.Option.{option_map}
-use Rattle.sk_triples.specs.Terms.{TripleView}
-use Rattle.sk_triples.specs.Line.{begun_at}
+use Rattle.sk_line.specs.Triple.{TripleView}
+use Rattle.sk_line.specs.Line.{begun_at}
 use Rattle.sk_triples.proofs.Covering.{none_at, triple_at}
 use Rattle.sk_triples.proofs.lookup.covering_triple.Goals as goal
 

@@ -1,4 +1,3 @@
-use Rattle.std.proofs.Common.{◌≡◌}
 use Rattle.station.proofs.Converted.{tick_read}
 use Rattle.station.proofs.convert.clock_tick.Goals as goal
 

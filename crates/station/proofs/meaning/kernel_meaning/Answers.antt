@@ -1,4 +1,4 @@
-use Rattle.std.proofs.Common.{◌≡◌, ℕ, List, Ok, Err}
+use Rattle.std.proofs.Common.{◌≡◌, ℕ, List, Err}
 use Rattle.sk_grammar.specs.Document.{DocView}
 use Rattle.sk_grammar.specs.Variables.{VariableView}
 use Rattle.sk_clock.specs.Clock.{ClockView}

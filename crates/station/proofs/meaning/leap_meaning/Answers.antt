@@ -1,4 +1,3 @@
-use Rattle.std.proofs.Common.{◌≡◌}
 use Rattle.station.specs.Files.{leap_pool, leap_table}
 use Rattle.station.proofs.Moves.{may_then}
 use Rattle.station.proofs.meaning.leap_meaning.Goals as goal

@@ -1,6 +1,6 @@
 use Rattle.std.proofs.Common.{◌≡◌, List, refl, sym, subst, ⊎_elim, rules}
 use Rattle.sk_clock.specs.Clock.{total}
-use Rattle.sk_clock.specs.Row.{RowView, AreRows}
+use Rattle.sk_publishing.specs.Row.{RowView, AreRows}
 use Rattle.sk_fit.specs.Causes.{Refuses, input}
 use Rattle.sk_fit.specs.declared.fault.FitFault.TheVariants.{NoMemory}
 use Rattle.sk_fit.specs.declared.settings.Settings.{Settings}

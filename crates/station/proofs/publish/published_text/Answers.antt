@@ -1,5 +1,5 @@
 use Rattle.std.proofs.Common.{◌≡◌, List, Ok, Some, subst}
-use Rattle.sk_clock.specs.Row.{RowView}
+use Rattle.sk_publishing.specs.Row.{RowView}
 use Rattle.sk_words.specs.Asked.{options_in}
 use Rattle.station.specs.Files.{KernelRead}
 use Rattle.sk_report.specs.Report.{table_of}

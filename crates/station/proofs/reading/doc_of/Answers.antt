@@ -1,11 +1,11 @@
-use Rattle.std.proofs.Common.{◌≡◌, ◌≢◌, ℕ, List, Result, Ok, Err, refl, sym, subst}
+use Rattle.std.proofs.Common.{◌≡◌, ℕ, List, Err, refl, sym, subst}
 use Rattle.sk_grammar.specs.Answers.{IsFaultOf}
 use Rattle.sk_grammar.specs.Document.{DocView}
 use Rattle.sk_grammar.specs.declared.fault.GrammarFault.{GrammarFault}
 use Rattle.sk_grammar.specs.declared.fault.GrammarFault.TheVariants.{At, NoMemory}
 use Rattle.sk_status.specs.declared.status.Status.{Status}
-use Rattle.sk_status.specs.declared.status.FileKind.{FileKind}
-use Rattle.sk_status.specs.declared.status.FileKind.TheVariants.{Leap, Kernel, Observations, New, Over}
+use Rattle.sk_status.specs.declared.status.DocumentKind.{DocumentKind}
+use Rattle.sk_status.specs.declared.status.DocumentKind.TheVariants.{Leap, Kernel, New, Over}
 use Rattle.station.specs.Stage.{Stage, MayAnswer}
 use Rattle.station.specs.Files.{judged, DocOf, refused_by}
 use Rattle.station.proofs.Sizes.{few_of}
@@ -15,11 +15,10 @@ refusal : (bytes : List ℕ) (fault : GrammarFault) → (fault ≡ NoMemory → 
 refusal bytes (At line reason) other h = h
 refusal bytes NoMemory other h = other refl
 
-may_refuse : {A X : Type 0} (view : X → A) (stage : Stage A) (kind : FileKind) (fault : GrammarFault) → stage (Err (refused_by kind fault))
+may_refuse : {A X : Type 0} (view : X → A) (stage : Stage A) (kind : DocumentKind) (fault : GrammarFault) → stage (Err (refused_by kind fault))
     → MayAnswer view stage (Err (refused_by kind fault))
 may_refuse view stage Leap fault h = h
 may_refuse view stage Kernel fault h = h
-may_refuse view stage Observations fault h = h
 may_refuse view stage New fault h = h
 may_refuse view stage (Over place) fault h = h
 
@@ -28,7 +27,7 @@ returns-in-Ok-clause-few c = λ bytes read short. few_of bytes _ short (c.in-Ok.
 
 pub returns-in-Err-clause-stage : goal.returns-in-Err-clause-stage
 returns-in-Err-clause-stage c = λ bytes read.
-    let kind : FileKind = c.args.kind in
+    let kind : DocumentKind = c.args.kind in
     let fault : GrammarFault = c.in-Err.fault in
     let stage : Stage DocView = judged (DocOf bytes) (refused_by kind) in
     let other : fault ≡ NoMemory → ⊥ = λ e. cc in

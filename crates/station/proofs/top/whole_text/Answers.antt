@@ -1,18 +1,18 @@
-use Rattle.std.proofs.Common.{◌≡◌, List, ℕ, map, ◌∷◌, Ok, ap, ◌∙◌, subst}
+use Rattle.std.proofs.Common.{◌≡◌, List, ℕ, map, ◌∷◌, ap, ◌∙◌, subst, Option, Some, None, Vec, Global}
 use Rattle.std.specs.Prelude.{codes, string_bytes}
-use Rattle.station.specs.Stage.{Stage}
-use Rattle.station.specs.Files.{Source}
-use Rattle.station.specs.Outcome.{requested, outcome_of}
-use Rattle.sk_words.specs.Asked.{Request, request_of}
-use Rattle.station.proofs.Moves.{may_then, over}
+use Rattle.sk_words.specs.declared.topic.Topic.{Topic}
+use Rattle.sk_words.specs.Topics.{topic_of}
+use Rattle.station.specs.Seen.{Source, seen_by}
+use Rattle.station.specs.Stage.{MayAnswer}
+use Rattle.station.specs.Outcome.{commanded, told_or}
 use Rattle.station.proofs.top.whole_text.Goals as goal
 
-pub returns-in-Ok-requested-clause-stage : goal.returns-in-Ok-requested-clause-stage
-returns-in-Ok-requested-clause-stage g c =
-    let source : Source = over (g.D.Depot.holds c.args.depot.now) (g.D.Depot.given c.command_text.new.depot) (g.D.Depot.faults c.args.depot.now) (g.D.Depot.faults c.command_text.new.depot) in
+pub returns-clause-stage : goal.returns-clause-stage
+returns-clause-stage g c =
+    let source : Source = seen_by g.D.Depot.holds g.D.Depot.given g.D.Depot.faults c.args.depot.now c.asked_text.new.depot in
     let words : List (List ℕ) = codes "station" ∷ map string_bytes c.args.words.now in
-    let request : Request = request_of c.in-Ok-requested.request in
-    let same : map (λ w. w.now) c.as_slice.result.now ≡ words = ap (map (λ w. w.now)) c.as_slice.ensures.value ∙ c.in-Ok.ensures in
-    may_then (λ v. v.items) (requested words) (λ (r : Request). outcome_of r.command source r.options) request c.command_text.result
-    (subst (λ (ws : List (List ℕ)). requested ws (Ok request)) same c.in-Ok-requested.ensures.asked)
-    c.command_text.ensures.stage
+    let first : map (λ w. w.now) c.as_slice.result.now ≡ words = ap (map (λ w. w.now)) c.as_slice.ensures.value ∙ c.in-Ok.ensures in
+    let again : map (λ w. w.now) c.as_slice-in-None.result.now ≡ words = ap (map (λ w. w.now)) c.as_slice-in-None.ensures.value ∙ c.in-Ok.ensures in
+    let none : None ≡ topic_of words = c.in-None.ensures.topic ∙ ap topic_of first in
+    subst (λ (topic : Option Topic). MayAnswer (λ (v : Vec ℕ Global). v.items) (told_or topic (commanded words source)) c.asked_text.result) none
+    (subst (λ (ws : List (List ℕ)). MayAnswer (λ (v : Vec ℕ Global). v.items) (commanded ws source) c.asked_text.result) again c.asked_text.ensures.stage)

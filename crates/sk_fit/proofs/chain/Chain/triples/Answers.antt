@@ -1,6 +1,6 @@
 use Rattle.std.proofs.Common.{◌≡◌, ◌++◌, List, map, drop, subst, sym, ap, ◌∙◌}
 use Rattle.std.specs.Prelude.{IfOk}
-use Rattle.sk_triples.specs.Terms.{TripleView}
+use Rattle.sk_line.specs.Triple.{TripleView}
 use Rattle.sk_triples.specs.Kernel.{AreTriples, TriplesView}
 use Rattle.sk_fit.specs.declared.chain.Segment.{Segment}
 use Rattle.sk_fit.specs.Given.{anchor_of, new_triples_of}

@@ -1,7 +1,7 @@
 use Rattle.std.proofs.Common.{◌≡◌, ◌+◌, List, ap, sym, subst, ◌∙◌}
 use Rattle.std.specs.Option.{option_map}
-use Rattle.sk_triples.specs.Terms.{TripleView}
-use Rattle.sk_triples.specs.Line.{covering}
+use Rattle.sk_line.specs.Triple.{TripleView}
+use Rattle.sk_line.specs.Line.{covering}
 use Rattle.sk_triples.specs.Kernel.{TriplesView, Rise}
 use Rattle.sk_triples.proofs.Covering.{place_of}
 use Rattle.sk_triples.proofs.triples.Triples.covering.Goals as goal

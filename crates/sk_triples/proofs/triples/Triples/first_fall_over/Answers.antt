@@ -2,7 +2,7 @@ use Rattle.std.proofs.Common.{◌≡◌, ◌<◌, ◌≤◌, ◌-◌, ◌^◌, �
 use Rattle.std.proofs.lemmas.Int.{ints}
 use Rattle.std.proofs.lemmas.Option.{slice_get_read}
 use Rattle.std.specs.Prelude.{ℤ, pos, ◌*ℤ◌, ◌<ℤ◌, ◌≤ℤ◌, slice_get}
-use Rattle.sk_triples.specs.Line.{fall_over, FallsOver, IsFirstFall}
+use Rattle.sk_line.specs.Line.{fall_over, FallsOver, IsFirstFall}
 use Rattle.sk_triples.specs.Kernel.{TriplesView, HasFall}
 use Rattle.sk_triples.proofs.Falls.{before_join, no_fall, one_more, none_at_all, found}
 use Rattle.sk_triples.proofs.Wide.{passed_on, count_passed}

@@ -1,5 +1,5 @@
 use Rattle.std.proofs.Common.{ℕ, ◌^◌, ◌<◌, pos, ◌*ℤ◌}
-use Rattle.sk_triples.specs.Line.{FallsOver}
+use Rattle.sk_line.specs.Line.{FallsOver}
 use Rattle.sk_triples.proofs.triples.Triples.first_fall_over.Given as goal
 
 abbrev pub invariant-loop-join : goal.invariant-loop-join

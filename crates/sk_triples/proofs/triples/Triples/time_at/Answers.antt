@@ -1,8 +1,8 @@
 use Rattle.std.proofs.Common.{◌≡◌, ℕ, List, Some, ap, sym, subst, arith, ◌∙◌}
 use Rattle.std.proofs.lemmas.Int.{ints}
 use Rattle.std.proofs.lemmas.Option.{none-some}
-use Rattle.sk_triples.specs.Terms.{TripleView}
-use Rattle.sk_triples.specs.Line.{covering, line_over}
+use Rattle.sk_line.specs.Triple.{TripleView}
+use Rattle.sk_line.specs.Line.{covering, line_over}
 use Rattle.sk_triples.specs.Kernel.{TriplesView, AreTriples}
 use Rattle.sk_triples.proofs.Covering.{found_of, kept_at}
 use Rattle.sk_triples.proofs.Wide.{passed_on}

@@ -1,0 +1,5 @@
+pub mod Runs
+pub mod MonthNames
+pub mod Dates
+pub mod Clocks
+pub mod Texts

@@ -1,5 +1,0 @@
-use Rattle.sk_fit.specs.Fitted.{AreOldTicks}
-use Rattle.sk_fit.proofs.fitting.first_new_of.Given as goal
-
-abbrev pub invariant-loop-place : goal.invariant-loop-place
-invariant-loop-place l = AreOldTicks l.clock l.start.old.anchor.ticks l.start.seam l.observations l.place

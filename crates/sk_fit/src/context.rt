@@ -1,0 +1,162 @@
+//! What a fit goes by: all that it reads and never changes.
+
+ghost use Rattle.std.specs.Prelude.{◌≡◌, ◌↔◌, ◌+◌, ◌<◌, ◌≤◌, ◌^◌, ◌≤ℤ◌, ◌<ℤ◌, IsTrue, true, length, slice_get, Some, []};
+ghost use Rattle.sk_clock.specs.Clock.{total, ticks_per as ticks_per_of, partition_at};
+ghost use Rattle.sk_publishing.specs.Meets.{Meets, line_at as line_of, scaled as scaled_time};
+ghost use Rattle.sk_publishing.specs.Rates.{IsLeastRate, IsGreatestRate};
+ghost use Rattle.sk_publishing.specs.Chain.{IsAllowedStep, rounded_up as rounded_up_of};
+ghost use Rattle.sk_publishing.specs.Kept.{is_new};
+ghost use Rattle.sk_publishing.specs.Built.{middle_rate as middle_of};
+ghost use Rattle.sk_fit.specs.Given.{CanMeet, IsRate, anchor_of, sight_at, segment_view};
+ghost use Rattle.sk_fit.specs.State.{HoldsLine};
+ghost use Rattle.sk_fit.specs.Context.{IsFit, IsNext, terms};
+
+use crate::anchors::{line_at, middle_rate, rounded_up};
+use crate::chain::Segment;
+use crate::partitions::are_together;
+use crate::products::{is_less, scaled};
+use crate::rates::{bounds, meets};
+use crate::settings::{Bounds, Line, Settings};
+use crate::start::Start;
+use sk_clock::Clock;
+use sk_decimal::Fixed;
+use sk_obs::Observation;
+use std::marker::Model;
+
+/// The clock, the settings, the start and the observations of a fit.
+#[derive(Drop)]
+pub struct Fit<'a> {
+    clock: &'a Clock,
+    settings: Settings,
+    start: Start,
+    observations: &'a [Observation],
+}
+
+impl<'a> Model for Fit<'a> {
+    ghost use Rattle.sk_fit.specs.Context.{FitView, IsFit};
+
+    ghost Value = { FitView };
+
+    ghost view = { λ f. record { settings = f.settings; clock = f.clock.now; start = f.start; rows = f.observations.now } };
+
+    ghost invariant = { λ f. IsFit (record { settings = f.settings; clock = f.clock.now; start = f.start; rows = f.observations.now }) };
+}
+
+impl<'a> Fit<'a> {
+    /// A fit by settings in their ranges and a band that is that of the allowed rates.
+    pub fn new(
+        clock: &'a Clock,
+        settings: Settings,
+        start: Start,
+        observations: &'a [Observation],
+    ) -> Fit<'a>
+        requires { IsFit (record { settings = settings; clock = clock.now; start = start; rows = observations.now }) }
+        ensures { result ≡ record { settings = settings; clock = clock.entry.now; start = start; rows = observations.entry.now } }
+    {
+        Fit {
+            clock,
+            settings,
+            start,
+            observations,
+        }
+    }
+
+    /// What new triples go on from.
+    pub fn start(&self) -> Start
+        ensures { result ≡ self.now.start }
+    {
+        self.start
+    }
+
+    /// How many observations there are.
+    pub fn count(&self) -> usize
+        ensures { result ≡ length self.now.rows }
+    {
+        self.observations.len()
+    }
+
+    /// The observation of a place.
+    pub fn at(&self, place: usize) -> &'a Observation
+        requires { place < length self.now.rows }
+        ensures here { slice_get self.now.rows place ≡ Some result.now }
+        ensures next { is_new (terms self.now) (sight_at place result.now) ≡ true → IsNext self.now place result.now }
+    {
+        let rows = self.observations;
+        &rows[place]
+    }
+
+    /// As many observations are dropped as may be.
+    pub fn is_full(&self, dropped: usize) -> bool
+        ensures { IsTrue result ↔ (self.now.settings.reject ≤ dropped) }
+    {
+        dropped >= self.settings.reject as usize
+    }
+
+    /// The observation is in the partition of a tick.
+    pub fn are_together(&self, obs: &Observation, tick: u64) -> bool
+        requires obs { obs.now.tick ≤ total self.now.clock }
+        requires tick { tick ≤ total self.now.clock }
+        ensures { IsTrue result ↔ (partition_at self.now.clock obs.now.tick ≡ partition_at self.now.clock tick) }
+    {
+        are_together(self.clock, obs.tick, tick)
+    }
+
+    /// The line is within the tolerance of the observation, both ends counted.
+    pub fn meets(&self, anchor: Line, rate: Fixed<18>, obs: &Observation) -> bool
+        requires line { CanMeet self.now.clock anchor obs.now }
+        requires rate { IsRate rate.units }
+        ensures { IsTrue result ↔ Meets (terms self.now).gauge (anchor_of anchor) rate.units (sight_at 0 obs.now) }
+    {
+        meets(self.clock, &self.settings, anchor, rate, obs)
+    }
+
+    /// The least allowed rate that is not too small at the observation, and the greatest that is not too large.
+    pub fn bounds(&self, anchor: Line, obs: &Observation) -> Bounds
+        requires { CanMeet self.now.clock anchor obs.now }
+        ensures least { IsLeastRate (IsAllowedStep (terms self.now)) (terms self.now).gauge (anchor_of anchor) (sight_at 0 obs.now) result.least }
+        ensures greatest { IsGreatestRate (IsAllowedStep (terms self.now)) (terms self.now).gauge (anchor_of anchor) (sight_at 0 obs.now) result.greatest }
+    {
+        bounds(self.clock, &self.settings, self.start.band, anchor, obs)
+    }
+
+    /// The rate in the middle of two allowed ones, rounded down to the grid.
+    pub fn middle_rate(&self, bounds: Bounds) -> Fixed<18>
+        requires least { IsAllowedStep (terms self.now) bounds.least }
+        requires greatest { IsAllowedStep (terms self.now) bounds.greatest }
+        requires filled { bounds.least ≤ℤ bounds.greatest }
+        ensures value { result.units ≡ middle_of (terms self.now) bounds.least bounds.greatest }
+        ensures rate { IsRate result.units }
+    {
+        middle_rate(self.settings.rate_decimals, bounds.least, bounds.greatest)
+    }
+
+    /// The anchor on the line of a segment at a tick: its time is rounded up to the time unit.
+    pub fn anchor_on(&self, segment: Segment, tick: u64) -> Line
+        requires line { HoldsLine (ticks_per_of self.now.clock) segment.anchor }
+        requires rate { IsRate segment.rate.units }
+        requires ahead { segment.anchor.ticks ≤ tick }
+        requires short { tick < 2 ^ 53 }
+        ensures { anchor_of result ≡ record { ticks = tick; time = rounded_up_of (terms self.now) (segment_view [] [] segment) tick } }
+    {
+        let ticks_per = self.clock.ticks_per();
+        let line = line_at(segment.anchor, segment.rate.units, tick, ticks_per);
+        let units = rounded_up(line, ticks_per);
+        Line {
+            ticks: tick,
+            time: Fixed { units },
+        }
+    }
+
+    /// The line of a segment is later than the observation.
+    pub fn is_late(&self, segment: Segment, obs: &Observation) -> bool
+        requires line { HoldsLine (ticks_per_of self.now.clock) segment.anchor }
+        requires rate { IsRate segment.rate.units }
+        requires ahead { segment.anchor.ticks ≤ obs.now.tick }
+        requires short { obs.now.tick ≤ total self.now.clock }
+        ensures { IsTrue result ↔ (scaled_time (terms self.now).gauge obs.now.time <ℤ line_of (terms self.now).gauge (anchor_of segment.anchor) segment.rate.units obs.now.tick) }
+    {
+        let ticks_per = self.clock.ticks_per();
+        let line = line_at(segment.anchor, segment.rate.units, obs.tick, ticks_per);
+        is_less(scaled(obs.time.units, ticks_per), line)
+    }
+}

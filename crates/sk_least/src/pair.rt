@@ -1,0 +1,8 @@
+use crate::point::Point;
+
+/// An observation and a later one.
+#[derive(Clone, Copy, Debug)]
+pub struct Pair {
+    pub from: Point,
+    pub to: Point,
+}

@@ -1,0 +1,2 @@
+pub mod Triple
+pub mod Line

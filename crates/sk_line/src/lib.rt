@@ -1,0 +1,2 @@
+//! The line of a coefficient triple: its definitions.
+#![tactic(auto)]

@@ -1,0 +1,14 @@
+pub mod Row
+pub mod Terms
+pub mod Meets
+pub mod Rates
+pub mod Chain
+pub mod Kept
+pub mod Input
+pub mod Built
+pub mod Table
+pub mod Published
+pub mod Laws
+pub mod Promises
+pub mod Told
+pub mod Again

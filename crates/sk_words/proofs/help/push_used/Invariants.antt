@@ -1,0 +1,7 @@
+use Rattle.std.proofs.Common.{◌≡◌, ◌++◌, take}
+use Rattle.std.specs.List.{flat_map}
+use Rattle.sk_words.specs.Help.{option_rows}
+use Rattle.sk_words.proofs.help.push_used.Given as goal
+
+abbrev pub invariant-loop-name : goal.invariant-loop-name
+invariant-loop-name l = l.page.items ≡ l.fn.page.items ++ flat_map option_rows (take l.name-index l.name-items)

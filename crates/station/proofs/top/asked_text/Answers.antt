@@ -1,0 +1,14 @@
+use Rattle.std.proofs.Common.{List, ℕ, map}
+use Rattle.station.specs.Seen.{Source, seen_by}
+use Rattle.station.specs.Outcome.{requested, outcome_of}
+use Rattle.sk_words.specs.Asked.{Request, request_of}
+use Rattle.station.proofs.Moves.{may_then}
+use Rattle.station.proofs.top.asked_text.Goals as goal
+
+pub returns-in-Ok-clause-stage : goal.returns-in-Ok-clause-stage
+returns-in-Ok-clause-stage g c =
+    let source : Source = seen_by g.D.Depot.holds g.D.Depot.given g.D.Depot.faults c.args.depot.now c.command_text.new.depot in
+    let words : List (List ℕ) = map (λ w. w.now) c.args.words.now in
+    let request : Request = request_of c.in-Ok.request in
+    may_then (λ v. v.items) (requested words) (λ (r : Request). outcome_of r.command source r.options) request c.command_text.result
+    c.in-Ok.ensures.asked c.command_text.ensures.stage

@@ -1,0 +1,42 @@
+use Rattle.std.proofs.Common.{ℕ, Vec, Global, subst}
+use Rattle.sk_words.specs.declared.tables.Command.{Command}
+use Rattle.sk_words.specs.Asked.{options_in}
+use Rattle.sk_words.specs.Request.{Options}
+use Rattle.station.specs.Stage.{MayAnswer}
+use Rattle.station.specs.Seen.{Source, seen_by}
+use Rattle.station.specs.Files.{opened_read, inputs_read}
+use Rattle.station.specs.Outcome.{outcome_of, publish_of, residuals_of, convert_of, invert_of}
+use Rattle.station.proofs.Moves.{may_then}
+use Rattle.station.proofs.top.command_text.Goals as goal
+
+pub returns-in_ok-read_inputs-in-Publish-clause-stage : goal.returns-in_ok-read_inputs-in-Publish-clause-stage
+returns-in_ok-read_inputs-in-Publish-clause-stage g c =
+    let depot = g.D.Depot in
+    let options : Options = options_in c.args.request.now in
+    let source : Source = seen_by depot.holds depot.given depot.faults c.args.depot.now c.read_inputs.new.depot in
+    subst (λ (command : Command). MayAnswer (λ (v : Vec ℕ Global). v.items) (outcome_of command source options) c.publish.result) c.in-Publish.ensures
+    (may_then (λ (v : Vec ℕ Global). v.items) (inputs_read source options) (publish_of options) c.in_ok-read_inputs-in-Publish.field-0 c.publish.result c.in_ok-read_inputs-in-Publish.ensures.stage c.publish.ensures)
+
+pub returns-in_ok-read_inputs-in-Residuals-clause-stage : goal.returns-in_ok-read_inputs-in-Residuals-clause-stage
+returns-in_ok-read_inputs-in-Residuals-clause-stage g c =
+    let depot = g.D.Depot in
+    let options : Options = options_in c.args.request.now in
+    let source : Source = seen_by depot.holds depot.given depot.faults c.args.depot.now c.read_inputs-in-Residuals.new.depot in
+    subst (λ (command : Command). MayAnswer (λ (v : Vec ℕ Global). v.items) (outcome_of command source options) c.residuals.result) c.in-Residuals.ensures
+    (may_then (λ (v : Vec ℕ Global). v.items) (inputs_read source options) residuals_of c.in_ok-read_inputs-in-Residuals.field-0 c.residuals.result c.in_ok-read_inputs-in-Residuals.ensures.stage c.residuals.ensures)
+
+pub returns-in_ok-read_opened-in-Convert-clause-stage : goal.returns-in_ok-read_opened-in-Convert-clause-stage
+returns-in_ok-read_opened-in-Convert-clause-stage g c =
+    let depot = g.D.Depot in
+    let options : Options = options_in c.args.request.now in
+    let source : Source = seen_by depot.holds depot.given depot.faults c.args.depot.now c.read_opened.new.depot in
+    subst (λ (command : Command). MayAnswer (λ (v : Vec ℕ Global). v.items) (outcome_of command source options) c.convert.result) c.in-Convert.ensures
+    (may_then (λ (v : Vec ℕ Global). v.items) (opened_read source options) (convert_of options) c.in_ok-read_opened-in-Convert.field-0 c.convert.result c.in_ok-read_opened-in-Convert.ensures.stage c.convert.ensures)
+
+pub returns-in_ok-read_opened-in-Invert-clause-stage : goal.returns-in_ok-read_opened-in-Invert-clause-stage
+returns-in_ok-read_opened-in-Invert-clause-stage g c =
+    let depot = g.D.Depot in
+    let options : Options = options_in c.args.request.now in
+    let source : Source = seen_by depot.holds depot.given depot.faults c.args.depot.now c.read_opened-in-Invert.new.depot in
+    subst (λ (command : Command). MayAnswer (λ (v : Vec ℕ Global). v.items) (outcome_of command source options) c.invert.result) c.in-Invert.ensures
+    (may_then (λ (v : Vec ℕ Global). v.items) (opened_read source options) (invert_of options) c.in_ok-read_opened-in-Invert.field-0 c.invert.result c.in_ok-read_opened-in-Invert.ensures.stage c.invert.ensures)
