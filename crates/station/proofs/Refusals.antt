@@ -47,21 +47,21 @@ use Rattle.sk_report.specs.declared.fault.ReportFault.TheVariants as report_faul
 use Rattle.sk_words.specs.declared.topic.Topic.{Topic}
 use Rattle.sk_words.specs.Help.{page_of}
 use Rattle.sk_words.specs.Topics.{topic_of}
-use Rattle.station.specs.Stage.{Stage, ◌>>=◌, MayAnswer, gives, some}
+use Rattle.sk_outcome.specs.Stage.{Stage, ◌>>=◌, MayAnswer, gives, some}
 use Rattle.sk_words.specs.Asked.{WordsAsk}
 use Rattle.sk_words.specs.Request.{Options, text_or}
-use Rattle.station.specs.Files as files
-use Rattle.station.specs.Seen.{Source}
-use Rattle.station.specs.Files.{KernelRead, OpenedRead, InputsRead, reads, judged, refused_by, document_too_long, too_long, opened_read, inputs_read, sc_of}
+use Rattle.sk_outcome.specs.Files as files
+use Rattle.sk_outcome.specs.Seen.{Source}
+use Rattle.sk_outcome.specs.Files.{KernelRead, OpenedRead, InputsRead, reads, judged, refused_by, document_too_long, too_long, opened_read, inputs_read, sc_of}
 use Rattle.sk_inverse.specs.Inverse.{IsTickOf, inverse_checks}
 use Rattle.sk_inverse.specs.declared.fault.InverseFault.{InverseFault}
 use Rattle.sk_inverse.specs.declared.fault.InverseFault.TheVariants as inverse_fault
-use Rattle.station.specs.Outcome.{requested, commanded, told_or, outcome, outcome_of, publish, publish_of, chain_of, residuals, residuals_of, normal, normal_of, convert, convert_of, converted, invert, invert_of, said, ticked, told, TimeOf, status_of_time, clock_tick, TickOf, covered, tabled, all_covered, status_of_report}
-use Rattle.station.specs.Publishing.{after_chain, after_rows}
-use Rattle.station.specs.Output.{settings_of, plain_table, new_kernel, published_doc, tick_fields, time_by, line_of}
-use Rattle.station.specs.Time.{IsUtcWord}
-use Rattle.station.proofs.Follows.{kernel_after, rows_after}
-use Rattle.station.specs.Ending.{Ends}
+use Rattle.sk_outcome.specs.Outcome.{requested, commanded, told_or, outcome, outcome_of, publish, publish_of, chain_of, residuals, residuals_of, normal, normal_of, convert, convert_of, converted, invert, invert_of, said, ticked, told, TimeOf, status_of_time, clock_tick, TickOf, covered, tabled, all_covered, status_of_report}
+use Rattle.sk_outcome.specs.Publishing.{after_chain, after_rows}
+use Rattle.sk_outcome.specs.Output.{settings_of, plain_table, new_kernel, published_doc, tick_fields, time_by, line_of}
+use Rattle.sk_outcome.specs.Time.{IsUtcWord}
+use Rattle.sk_outcome.proofs.Follows.{kernel_after, rows_after}
+use Rattle.sk_outcome.specs.Ending.{Ends}
 use Rattle.sk_status.specs.Written.{Written, IsUntouched}
 use Rattle.sk_status.specs.Notes.{CarriesNoMemory}
 

@@ -13,7 +13,7 @@ use Rattle.sk_grammar.specs.declared.value.Op.{Op}
 use Rattle.sk_grammar.specs.declared.value.Op.TheVariants.{Set, Append}
 use Rattle.sk_grammar.specs.Spelling.{SpellsValues, SpellsVector, SpellsOpening, SpellsItem, SpellsItems, SpellsBlocks, SpellsLines, Spells, sign_of}
 use Rattle.sk_grammar.specs.Variables.{VariableView, items_of, variables_of, names_of, values_of, assigning, from_last_set, is_set, IsCounted}
-use Rattle.station.specs.Files.{HasFew}
+use Rattle.sk_outcome.specs.Files.{HasFew}
 
 -- ---- how much bytes and lines have room for
 

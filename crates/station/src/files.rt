@@ -2,15 +2,13 @@
 ghost use Rattle.std.specs.Prelude.{◌≡◌, List, ℕ, Some, IfOk};
 ghost use Rattle.sk_clock.specs.Clock.{total};
 ghost use Rattle.sk_publishing.specs.Row.{AreRows};
-ghost use Rattle.station.specs.Stage.{MayAnswer};
+ghost use Rattle.sk_outcome.specs.Stage.{MayAnswer};
 ghost use Rattle.sk_words.specs.Asked.{options_in, NeedsNumber};
-ghost use Rattle.station.specs.Seen.{seen_by, Stays};
-ghost use Rattle.station.specs.Files.{leap_named as named_stage, leap_file as leap_stage, kernel_document as document_stage, kernel_file as kernel_stage, observation_file as observation_stage, HasFew};
+ghost use Rattle.sk_outcome.specs.Seen.{seen_by, Stays};
+ghost use Rattle.sk_outcome.specs.Files.{leap_named as named_stage, leap_file as leap_stage, kernel_document as document_stage, kernel_file as kernel_stage, observation_file as observation_stage, HasFew};
 
-use crate::inputs::Opened;
-use crate::kernel::Kernel;
-use crate::meaning::{kernel_meaning, leap_meaning, observed};
 use crate::reading::{document, read_file};
+use sk_commands::{Kernel, Opened, kernel_meaning, leap_meaning, observed};
 use sk_edge::Depot;
 use sk_grammar::{Doc, List};
 use sk_leap::LeapTable;

@@ -1,57 +1,15 @@
-//! What a command reads before it judges.
-ghost use Rattle.std.specs.Prelude.{◌≡◌};
+//! The files that a command reads before it judges.
 ghost use Rattle.sk_words.specs.Asked.{options_in, NeedsNumber};
-ghost use Rattle.station.specs.Stage.{MayAnswer};
-ghost use Rattle.station.specs.Seen.{seen_by, Stays};
-ghost use Rattle.station.specs.Files.{opened_read, inputs_read};
+ghost use Rattle.sk_outcome.specs.Stage.{MayAnswer};
+ghost use Rattle.sk_outcome.specs.Seen.{seen_by, Stays};
+ghost use Rattle.sk_outcome.specs.Files.{opened_read, inputs_read};
 
 use crate::files::{kernel_file, leap_file, observation_file};
-use crate::kernel::Kernel;
+use sk_commands::{Inputs, Opened};
 use sk_edge::Depot;
-use sk_grammar::List;
-use sk_leap::LeapTable;
-use sk_obs::Observation;
 use sk_status::Status;
 use sk_words::Request;
 use std::alloc::Global;
-use std::marker::Model;
-
-/// The leap table and the clock kernel.
-#[derive(Drop)]
-pub struct Opened {
-    pub leap: LeapTable,
-    pub kernel: Kernel,
-}
-
-impl Model for Opened {
-    ghost use Rattle.station.specs.Files.{OpenedRead};
-    ghost use Rattle.station.specs.Time.{IsDated};
-
-    ghost Value = { OpenedRead };
-
-    ghost view = { λ o. record { leap = o.leap; kernel = o.kernel } };
-
-    ghost invariant = { λ o. IsDated o.leap };
-}
-
-/// The clock kernel and the observations.
-#[derive(Drop)]
-pub struct Inputs {
-    pub kernel: Kernel,
-    pub observations: List<Observation>,
-}
-
-impl Model for Inputs {
-    ghost use Rattle.sk_clock.specs.Clock.{total};
-    ghost use Rattle.sk_publishing.specs.Row.{AreRows};
-    ghost use Rattle.station.specs.Files.{InputsRead};
-
-    ghost Value = { InputsRead };
-
-    ghost view = { λ i. record { kernel = i.kernel; observations = i.observations } };
-
-    ghost invariant = { λ i. AreRows (total i.kernel.clock) i.observations };
-}
 
 /// Reads the leap second kernel, where one is named, and the clock kernel.
 pub fn read_opened<D: Depot>(

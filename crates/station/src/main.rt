@@ -1,33 +1,19 @@
 //! The program: it reads kernels and observations, and writes what a command asks for.
 #![tactic(auto)]
 
-mod convert;
 mod files;
 #[cfg(test)]
 mod help_tests;
 mod inputs;
-mod invert;
 #[cfg(test)]
 mod invert_tests;
-mod kernel;
-mod laws;
-mod meaning;
-mod normal;
-mod publish;
 #[cfg(test)]
 mod publish_tests;
 mod reading;
-mod residuals;
 #[cfg(test)]
 mod tests;
-mod ticks;
-mod time_word;
 mod top;
 
-pub use laws::{
-    adds_nothing, adds_one_block, canonical_is_read, none_adds_none, one_text, read_again,
-    same_document, text_is_read, utc_is_read,
-};
 pub use reading::{document, read_file};
 use sk_edge::{FileDepot, Sink, StreamSink};
 use sk_status::{Status, write_note};

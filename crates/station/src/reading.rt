@@ -1,9 +1,9 @@
 //! Files, and the documents in them.
 ghost use Rattle.std.specs.Prelude.{◌≡◌, ◌≤◌, length, List, ℕ, Some, Ok, Err, IfOk, IfErr};
 ghost use Rattle.sk_grammar.specs.HasRead.{HasRead};
-ghost use Rattle.station.specs.Stage.{MayAnswer};
-ghost use Rattle.station.specs.Seen.{seen_by, Stays};
-ghost use Rattle.station.specs.Files.{reads, document_too_long as document_when_long, too_long as status_when_long, refused_by, document as document_stage, judged, DocOf, HasFew};
+ghost use Rattle.sk_outcome.specs.Stage.{MayAnswer};
+ghost use Rattle.sk_outcome.specs.Seen.{seen_by, Stays};
+ghost use Rattle.sk_outcome.specs.Files.{reads, document_too_long as document_when_long, too_long as status_when_long, refused_by, document as document_stage, judged, DocOf, HasFew};
 
 use sk_edge::{Depot, PieceStop, ReadStop, read_all, read_piece};
 use sk_grammar::{Doc, GrammarFault, Reader};

@@ -1,10 +1,10 @@
 use Rattle.std.proofs.Common.{ℕ, subst}
-use Rattle.station.specs.Seen.{Source, seen_by}
-use Rattle.station.specs.Stage.{MayAnswer}
+use Rattle.sk_outcome.specs.Seen.{Source, seen_by}
+use Rattle.sk_outcome.specs.Stage.{MayAnswer}
 use Rattle.sk_words.specs.Asked.{options_in}
 use Rattle.sk_words.specs.Request.{Options}
-use Rattle.station.specs.Files.{KernelRead, kernel_document, kernel_meaning, sc_of}
-use Rattle.station.proofs.Moves.{may_then}
+use Rattle.sk_outcome.specs.Files.{KernelRead, kernel_document, kernel_meaning, sc_of}
+use Rattle.sk_outcome.proofs.Moves.{may_then}
 use Rattle.station.proofs.files.kernel_file.Goals as goal
 
 pub returns-clause-stage : goal.returns-clause-stage

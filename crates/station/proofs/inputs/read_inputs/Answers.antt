@@ -1,11 +1,11 @@
 use Rattle.std.proofs.Common.{Ok}
 use Rattle.sk_words.specs.Asked.{options_in}
 use Rattle.sk_words.specs.Request.{Options}
-use Rattle.station.specs.Seen.{Source, seen_by}
-use Rattle.station.specs.Stage.{gives}
-use Rattle.station.specs.Files.{OpenedRead, InputsRead, opened_read, observation_file}
-use Rattle.station.proofs.Follows.{rows_after, opened_follows, rows_after_follow}
-use Rattle.station.proofs.Moves.{reads_then, may_end_as, handed_on}
+use Rattle.sk_outcome.specs.Seen.{Source, seen_by}
+use Rattle.sk_outcome.specs.Stage.{gives}
+use Rattle.sk_outcome.specs.Files.{OpenedRead, InputsRead, opened_read, observation_file}
+use Rattle.sk_outcome.proofs.Follows.{rows_after, opened_follows, rows_after_follow}
+use Rattle.sk_outcome.proofs.Moves.{reads_then, may_end_as, handed_on}
 use Rattle.station.proofs.inputs.read_inputs.Goals as goal
 
 pub returns-in_err-observations-clause-stage : goal.returns-in_err-observations-clause-stage

@@ -1,12 +1,12 @@
 use Rattle.std.proofs.Common.{Ok, refl}
 use Rattle.sk_words.specs.Asked.{options_in}
 use Rattle.sk_words.specs.Request.{Options}
-use Rattle.station.specs.Seen.{Source, seen_by}
-use Rattle.station.specs.Stage.{gives}
-use Rattle.station.specs.Files.{OpenedRead, leap_file, kernel_file}
-use Rattle.station.proofs.Converted.{file_dated}
-use Rattle.station.proofs.Follows.{kernel_after, leap_follows, kernel_after_follows}
-use Rattle.station.proofs.Moves.{reads_then, may_end_as, handed_on}
+use Rattle.sk_outcome.specs.Seen.{Source, seen_by}
+use Rattle.sk_outcome.specs.Stage.{gives}
+use Rattle.sk_outcome.specs.Files.{OpenedRead, leap_file, kernel_file}
+use Rattle.sk_outcome.proofs.Converted.{file_dated}
+use Rattle.sk_outcome.proofs.Follows.{kernel_after, leap_follows, kernel_after_follows}
+use Rattle.sk_outcome.proofs.Moves.{reads_then, may_end_as, handed_on}
 use Rattle.station.proofs.inputs.read_opened.Goals as goal
 
 pub invariant_of-result : goal.invariant_of-result

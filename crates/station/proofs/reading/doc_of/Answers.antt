@@ -6,8 +6,8 @@ use Rattle.sk_grammar.specs.declared.fault.GrammarFault.TheVariants.{At, NoMemor
 use Rattle.sk_status.specs.declared.status.Status.{Status}
 use Rattle.sk_status.specs.declared.status.DocumentKind.{DocumentKind}
 use Rattle.sk_status.specs.declared.status.DocumentKind.TheVariants.{Leap, Kernel, New, Over}
-use Rattle.station.specs.Stage.{Stage, MayAnswer}
-use Rattle.station.specs.Files.{judged, DocOf, refused_by}
+use Rattle.sk_outcome.specs.Stage.{Stage, MayAnswer}
+use Rattle.sk_outcome.specs.Files.{judged, DocOf, refused_by}
 use Rattle.station.proofs.Sizes.{few_of}
 use Rattle.station.proofs.reading.doc_of.Goals as goal
 

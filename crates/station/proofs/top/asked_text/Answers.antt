@@ -1,8 +1,8 @@
 use Rattle.std.proofs.Common.{List, ℕ, map}
-use Rattle.station.specs.Seen.{Source, seen_by}
-use Rattle.station.specs.Outcome.{requested, outcome_of}
+use Rattle.sk_outcome.specs.Seen.{Source, seen_by}
+use Rattle.sk_outcome.specs.Outcome.{requested, outcome_of}
 use Rattle.sk_words.specs.Asked.{Request, request_of}
-use Rattle.station.proofs.Moves.{may_then}
+use Rattle.sk_outcome.proofs.Moves.{may_then}
 use Rattle.station.proofs.top.asked_text.Goals as goal
 
 pub returns-in-Ok-clause-stage : goal.returns-in-Ok-clause-stage

@@ -2,11 +2,11 @@ use Rattle.std.proofs.Common.{ℕ, Vec, Global, subst}
 use Rattle.sk_words.specs.declared.tables.Command.{Command}
 use Rattle.sk_words.specs.Asked.{options_in}
 use Rattle.sk_words.specs.Request.{Options}
-use Rattle.station.specs.Stage.{MayAnswer}
-use Rattle.station.specs.Seen.{Source, seen_by}
-use Rattle.station.specs.Files.{opened_read, inputs_read}
-use Rattle.station.specs.Outcome.{outcome_of, publish_of, residuals_of, convert_of, invert_of}
-use Rattle.station.proofs.Moves.{may_then}
+use Rattle.sk_outcome.specs.Stage.{MayAnswer}
+use Rattle.sk_outcome.specs.Seen.{Source, seen_by}
+use Rattle.sk_outcome.specs.Files.{opened_read, inputs_read}
+use Rattle.sk_outcome.specs.Outcome.{outcome_of, publish_of, residuals_of, convert_of, invert_of}
+use Rattle.sk_outcome.proofs.Moves.{may_then}
 use Rattle.station.proofs.top.command_text.Goals as goal
 
 pub returns-in_ok-read_inputs-in-Publish-clause-stage : goal.returns-in_ok-read_inputs-in-Publish-clause-stage

@@ -1,10 +1,10 @@
 use Rattle.std.proofs.Common.{ℕ, List, map, refl, subst, Vec, Global}
 use Rattle.std.specs.Prelude.{string_bytes}
 use Rattle.sk_status.specs.Written.{Written, written_by}
-use Rattle.station.specs.Seen.{seen_by}
-use Rattle.station.specs.Stage.{Stage, gives}
-use Rattle.station.specs.Ending.{Ends}
-use Rattle.station.specs.Outcome.{outcome}
+use Rattle.sk_outcome.specs.Seen.{seen_by}
+use Rattle.sk_outcome.specs.Stage.{Stage, gives}
+use Rattle.sk_outcome.specs.Ending.{Ends}
+use Rattle.sk_outcome.specs.Outcome.{outcome}
 use Rattle.station.proofs.Refusals.{ends_refused, ends_text, no_memory_carried}
 use Rattle.station.proofs.top.ended.Goals as goal
 

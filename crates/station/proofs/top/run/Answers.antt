@@ -1,10 +1,10 @@
 use Rattle.std.proofs.Common.{map, refl}
 use Rattle.std.specs.Prelude.{string_bytes}
 use Rattle.sk_status.specs.Written.{Written, written_by}
-use Rattle.station.specs.Seen.{Source, seen_by}
-use Rattle.station.proofs.Complete.{completed}
-use Rattle.station.proofs.Published.{headline}
-use Rattle.station.proofs.Exactly.{exactly}
+use Rattle.sk_outcome.specs.Seen.{Source, seen_by}
+use Rattle.sk_headline.proofs.Complete.{completed}
+use Rattle.sk_headline.proofs.Published.{headline}
+use Rattle.sk_headline.proofs.Exactly.{exactly}
 use Rattle.station.proofs.top.run.Goals as goal
 
 pub returns-clause-complete : goal.returns-clause-complete

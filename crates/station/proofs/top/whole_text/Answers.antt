@@ -2,9 +2,9 @@ use Rattle.std.proofs.Common.{◌≡◌, List, ℕ, map, ◌∷◌, ap, ◌∙�
 use Rattle.std.specs.Prelude.{codes, string_bytes}
 use Rattle.sk_words.specs.declared.topic.Topic.{Topic}
 use Rattle.sk_words.specs.Topics.{topic_of}
-use Rattle.station.specs.Seen.{Source, seen_by}
-use Rattle.station.specs.Stage.{MayAnswer}
-use Rattle.station.specs.Outcome.{commanded, told_or}
+use Rattle.sk_outcome.specs.Seen.{Source, seen_by}
+use Rattle.sk_outcome.specs.Stage.{MayAnswer}
+use Rattle.sk_outcome.specs.Outcome.{commanded, told_or}
 use Rattle.station.proofs.top.whole_text.Goals as goal
 
 pub returns-clause-stage : goal.returns-clause-stage

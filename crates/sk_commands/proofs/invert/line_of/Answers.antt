@@ -1,0 +1,13 @@
+use Rattle.std.proofs.Common.{ℕ, List, [], ◌∷◌, ap, ◌∙◌}
+use Rattle.std.specs.Prelude.{decimal}
+use Rattle.sk_decimal.specs.Fixed.{fixed_text}
+use Rattle.sk_outcome.specs.Output.{line_of}
+use Rattle.sk_outcome.proofs.Telling.{three_fields}
+use Rattle.sk_commands.proofs.invert.line_of.Goals as goal
+
+pub returns : goal.returns
+returns c =
+    three_fields c.new-line.result.items c.push_tick.new.out.items c.push.new.self.items
+    c.as_str.result.now (decimal c.args.tick) (fixed_text 12 c.args.time.units)
+    c.new-line.ensures.items c.in_ok-push_tick.ensures c.in_ok-push.ensures.items
+    ∙ ap (λ (text : List ℕ). line_of (text ∷ decimal c.args.tick ∷ fixed_text 12 c.args.time.units ∷ [])) (c.as_str.ensures.value ∙ c.in-Ok.ensures.answer.1)

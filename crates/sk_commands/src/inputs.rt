@@ -1,0 +1,44 @@
+//! What a command reads before it judges.
+
+use crate::kernel::Kernel;
+use sk_grammar::List;
+use sk_leap::LeapTable;
+use sk_obs::Observation;
+use std::marker::Model;
+
+/// The leap table and the clock kernel.
+#[derive(Drop)]
+pub struct Opened {
+    pub leap: LeapTable,
+    pub kernel: Kernel,
+}
+
+impl Model for Opened {
+    ghost use Rattle.sk_outcome.specs.Files.{OpenedRead};
+    ghost use Rattle.sk_outcome.specs.Time.{IsDated};
+
+    ghost Value = { OpenedRead };
+
+    ghost view = { λ o. record { leap = o.leap; kernel = o.kernel } };
+
+    ghost invariant = { λ o. IsDated o.leap };
+}
+
+/// The clock kernel and the observations.
+#[derive(Drop)]
+pub struct Inputs {
+    pub kernel: Kernel,
+    pub observations: List<Observation>,
+}
+
+impl Model for Inputs {
+    ghost use Rattle.sk_clock.specs.Clock.{total};
+    ghost use Rattle.sk_publishing.specs.Row.{AreRows};
+    ghost use Rattle.sk_outcome.specs.Files.{InputsRead};
+
+    ghost Value = { InputsRead };
+
+    ghost view = { λ i. record { kernel = i.kernel; observations = i.observations } };
+
+    ghost invariant = { λ i. AreRows (total i.kernel.clock) i.observations };
+}

@@ -1,0 +1,5 @@
+use Rattle.sk_headline.proofs.Uses as texts
+use Rattle.sk_headline.proofs.laws.canonical_is_read.Goals as goal
+
+pub returns : goal.returns
+returns c = texts.canonical_is_read

@@ -1,0 +1,49 @@
+//! Laws of publications and of lines: functions with empty bodies, whose contracts are proved.
+
+ghost use Rattle.sk_headline.specs.Headline.{OneText};
+ghost use Rattle.sk_headline.specs.Uses.{ReadAgain, AddsNothing, AddsOneBlock, NoneAddsNone, SameDocument, CanonicalIsRead, TextIsRead, UtcIsRead};
+
+/// The options and the bytes of the files determine what is published, to the byte.
+pub fn one_text()
+    ensures { OneText }
+{}
+
+/// A published kernel, where it is not longer than a file may be, is read again: the old clock, and the old triples and then the new ones.
+pub fn read_again()
+    ensures { ReadAgain }
+{}
+
+/// The same observations, published again over the published kernel, add no triple, where none was dropped and no hold is given.
+pub fn adds_nothing()
+    ensures { AddsNothing }
+{}
+
+/// What is published is the canonical text of the old document and then one block.
+pub fn adds_one_block()
+    ensures { AddsOneBlock }
+{}
+
+/// A publication of no observations adds no triple.
+pub fn none_adds_none()
+    ensures { NoneAddsNone }
+{}
+
+/// Two texts of one document, as a kernel and its canonical text, have the same publication.
+pub fn same_document()
+    ensures { SameDocument }
+{}
+
+/// The canonical text of a document is read as that document, so that its own canonical text is the same text.
+pub fn canonical_is_read()
+    ensures { CanonicalIsRead }
+{}
+
+/// The clock text that `convert` printed is converted to the same line.
+pub fn text_is_read()
+    ensures { TextIsRead }
+{}
+
+/// The UTC that `convert` printed is read as the time that it printed.
+pub fn utc_is_read()
+    ensures { UtcIsRead }
+{}

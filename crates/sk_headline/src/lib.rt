@@ -1,0 +1,6 @@
+//! What a published kernel is, exactly when a run writes one, and what those who use the program may rely on.
+#![tactic(auto)]
+
+mod laws;
+
+pub use laws::{adds_nothing, adds_one_block, canonical_is_read, none_adds_none, one_text, read_again, same_document, text_is_read, utc_is_read};

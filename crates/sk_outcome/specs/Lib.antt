@@ -1,0 +1,9 @@
+pub mod Stage
+pub mod Seen
+pub mod Files
+pub mod Time
+pub mod Output
+pub mod Sample
+pub mod Outcome
+pub mod Ending
+pub mod Publishing

@@ -1,0 +1,255 @@
+-- What a run of each command comes to: the text that it writes, or the status that ends it first.
+use Rattle.std.specs.Prelude.{◌≡◌, ℕ, ◌+◌, ◌^◌, ℤ, pos, ◌*ℤ◌, List, [], ◌∷◌, ◌++◌, codes, Result, Ok, Err, Option, Some, None, ⊤}
+use Rattle.std.specs.Option.{option_map_or}
+use Rattle.sk_grammar.specs.Canonical.{canonical_text, ended_by_line_feeds}
+use Rattle.sk_grammar.specs.Document.{DocView}
+use Rattle.sk_checks.specs.Checks.{Judges}
+use Rattle.sk_leap.specs.declared.pair.LeapPair.{LeapPair}
+use Rattle.sk_publishing.specs.Row.{RowView}
+use Rattle.sk_clock.specs.Clock.{ClockView, total, lengths}
+use Rattle.sk_obs.specs.declared.fault.ClockWord.{ClockWord}
+use Rattle.sk_obs.specs.Words.{word_checks, IsClockWord, time_word, SaysTime}
+use Rattle.sk_line.specs.Triple.{TripleView}
+use Rattle.sk_publishing.specs.Terms.{sights}
+use Rattle.sk_line.specs.Line.{covering}
+use Rattle.sk_triples.specs.Kernel.{TriplesView, range_checks}
+use Rattle.sk_fit.specs.declared.chain.Chain.{Chain}
+use Rattle.sk_fit.specs.Causes.{Fits, input}
+use Rattle.sk_fit.specs.Given.{new_triples_of}
+use Rattle.sk_report.specs.Report.{table_checks}
+use Rattle.sk_report.specs.declared.fault.ReportFault.{ReportFault}
+use Rattle.sk_report.specs.declared.fault.ReportFault.TheVariants as report_fault
+use Rattle.sk_inverse.specs.Inverse.{IsTickOf, inverse_checks}
+use Rattle.sk_inverse.specs.declared.fault.InverseFault.{InverseFault}
+use Rattle.sk_inverse.specs.declared.fault.InverseFault.TheVariants as inverse_fault
+use Rattle.sk_audit.specs.Audit as aud
+use Rattle.sk_audit.specs.declared.verdict.AuditFault.{AuditFault}
+use Rattle.sk_audit.specs.declared.verdict.Verdict.TheVariants.{Yes, No}
+use Rattle.sk_excerpt.specs.Excerpt as ex
+use Rattle.sk_least.specs.Answer as cover
+use Rattle.sk_words.specs.declared.tables.Command.{Command}
+use Rattle.sk_words.specs.declared.tables.Command.TheVariants.{Publish, Residuals, Normal, Convert, Invert}
+use Rattle.sk_status.specs.declared.status.Status.{Status}
+use Rattle.sk_status.specs.declared.status.Status.TheVariants.{WordsRefused, ObservationRefused, NotPublished, TimeRefused, AuditNo, ExcerptRefused, NoMemory}
+use Rattle.sk_status.specs.declared.status.DocumentKind.TheVariants.{New, Over}
+use Rattle.sk_status.specs.declared.status.ObsStop.TheVariants as obs_stop
+use Rattle.sk_status.specs.declared.status.TimeStop.{TimeStop}
+use Rattle.sk_status.specs.declared.status.TimeStop.TheVariants as time_stop
+use Rattle.sk_words.specs.declared.tables.OptionName.TheVariants as opt
+use Rattle.sk_words.specs.Asked.{Request, WordsAsk}
+use Rattle.sk_words.specs.Help.{page_of}
+use Rattle.sk_words.specs.Topics.{topic_of}
+use Rattle.sk_words.specs.declared.topic.Topic.{Topic}
+use Rattle.sk_outcome.specs.Stage.{Stage, ◌>>=◌, gives, some}
+use Rattle.sk_words.specs.Request.{Options, number_or, text_or, over_names}
+use Rattle.sk_outcome.specs.Seen.{Source}
+use Rattle.sk_outcome.specs.Files.{judged, document, kernel_document, kernel_meaning, KernelRead, OpenedRead, InputsRead, opened_read, inputs_read, sc_of}
+use Rattle.sk_outcome.specs.Output.{settings_of, plain_table, published_doc, tick_fields, time_by, line_of, least_text, new_kernel}
+use Rattle.sk_outcome.specs.Time.{time_stops, IsUtcWord}
+use Rattle.sk_outcome.specs.Sample.{sample_triples, sample_clock, sample_rows, sample_fields}
+
+-- ---- parts of several commands
+
+-- the triple that covers a tick; where there is none the record is out of range
+abbrev pub covered : TriplesView → ℕ → ℕ → Stage TripleView
+covered triples number tick = judged
+    (Judges (range_checks triples tick) (λ triple. (n : ℕ) × (covering triples.triples tick ≡ Some (n, triple))))
+    (λ fault. ObservationRefused (obs_stop.Range number fault))
+
+abbrev pub status_of_report : ReportFault → Status
+status_of_report (report_fault.Range number fault) = ObservationRefused (obs_stop.Range number fault)
+status_of_report report_fault.NoMemory = NoMemory
+
+-- each observation has a time by the kernel
+abbrev pub all_covered : TriplesView → List RowView → Stage ⊤
+all_covered triples observations = judged (Judges (table_checks triples observations) (λ _. ⊤)) status_of_report
+
+-- the lines of the table by the kernel's own triples
+abbrev pub tabled : KernelRead → List RowView → Stage (List (List ℕ))
+tabled kernel observations = do
+  covers ← all_covered kernel.triples observations
+  gives (plain_table kernel observations)
+
+abbrev pub chain_of : Options → KernelRead → List RowView → Stage Chain
+chain_of options kernel observations =
+    judged (Fits (input kernel.triples kernel.clock observations (settings_of options)) observations) NotPublished
+
+-- ---- the commands
+
+-- the published kernel
+abbrev pub publish_of : Options → InputsRead → Stage (List ℕ)
+publish_of options inputs = do
+  chain ← chain_of options inputs.kernel inputs.observations
+  covers ← all_covered (new_kernel inputs.kernel chain) inputs.observations
+  gives (canonical_text (published_doc options inputs.kernel inputs.observations chain))
+
+abbrev pub publish : Source → Options → Stage (List ℕ)
+publish source options = do
+  inputs ← inputs_read source options
+  publish_of options inputs
+
+-- the table of the observations
+abbrev pub residuals_of : InputsRead → Stage (List ℕ)
+residuals_of inputs = do
+  lines ← tabled inputs.kernel inputs.observations
+  gives (ended_by_line_feeds lines)
+
+abbrev pub residuals : Source → Options → Stage (List ℕ)
+residuals source options = do
+  inputs ← inputs_read source options
+  residuals_of inputs
+
+-- the canonical text of a kernel
+abbrev pub normal_of : DocView → Stage (List ℕ)
+normal_of doc = gives (canonical_text doc)
+
+abbrev pub normal : Source → Options → Stage (List ℕ)
+normal source options = do
+  doc ← kernel_document source options
+  normal_of doc
+
+-- what clock words and time words come to
+abbrev pub TickOf : List ℕ → ClockView → Result ℕ ClockWord → Type 0
+TickOf word clock = Judges (word_checks clock word) (IsClockWord clock word)
+
+abbrev pub TimeOf : List ℕ → List LeapPair → Result ℤ TimeStop → Type 0
+TimeOf word leap = Judges (time_stops leap word) (SaysTime leap (time_word word))
+
+-- the tick of a clock word
+abbrev pub clock_tick : List ℕ → ClockView → Stage ℕ
+clock_tick word clock = judged (TickOf word clock) (λ w. ObservationRefused (obs_stop.Clock w))
+
+-- the line of a tick, with the UTC of its time
+abbrev pub converted : List LeapPair → KernelRead → ℕ → Stage (List ℕ)
+converted leap kernel tick = do
+  triple ← covered kernel.triples 0 tick
+  utc ← some (IsUtcWord leap (time_by kernel triple tick))
+  gives (line_of (tick_fields kernel triple tick ++ utc ∷ []))
+
+abbrev pub convert_of : Options → OpenedRead → Stage (List ℕ)
+convert_of options opened = do
+  tick ← clock_tick (text_or opt.Clock options) opened.kernel.clock
+  converted opened.leap opened.kernel tick
+
+abbrev pub convert : Source → Options → Stage (List ℕ)
+convert source options = do
+  opened ← opened_read source options
+  convert_of options opened
+
+-- the publication of the sample's observations
+abbrev pub sample_of : ℕ → ℕ → Options → Stage (List ℕ)
+sample_of seed count options = do
+  chain ← judged (Fits (input sample_triples sample_clock (sample_rows seed count) (settings_of options)) (sample_rows seed count)) NotPublished
+  gives (line_of (sample_fields seed count (new_triples_of chain) (sample_triples.triples ++ new_triples_of chain)))
+
+abbrev pub sample : Source → Options → Stage (List ℕ)
+sample source options = sample_of (number_or 0 opt.Seed options) (number_or 0 opt.Count options) options
+
+-- the tick of a time, in time units
+abbrev pub status_of_time : InverseFault → Status
+status_of_time inverse_fault.BeforeFirst = TimeRefused time_stop.BeforeFirst
+status_of_time inverse_fault.PastEnd = TimeRefused time_stop.PastEnd
+
+abbrev pub ticked : KernelRead → ℤ → Stage ℕ
+ticked kernel time = judged
+    (Judges (inverse_checks kernel.triples (time *ℤ pos (10 ^ 6))) (IsTickOf kernel.triples (time *ℤ pos (10 ^ 6))))
+    status_of_time
+
+-- the time of a time word
+abbrev pub said : List ℕ → List LeapPair → Stage ℤ
+said word leap = judged (TimeOf word leap) TimeRefused
+
+-- the line of a tick
+abbrev pub told : KernelRead → ℕ → Stage (List ℕ)
+told kernel tick = do
+  triple ← covered kernel.triples 0 tick
+  gives (line_of (tick_fields kernel triple tick))
+
+abbrev pub invert_of : Options → OpenedRead → Stage (List ℕ)
+invert_of options opened = do
+  time ← said (text_or opt.Time options) opened.leap
+  tick ← ticked opened.kernel time
+  told opened.kernel tick
+
+abbrev pub invert : Source → Options → Stage (List ℕ)
+invert source options = do
+  opened ← opened_read source options
+  invert_of options opened
+
+-- yes, or the fault
+abbrev pub verdict : aud.Audit → Stage ⊤
+verdict audit (Ok _) = aud.Decides audit Yes
+verdict audit (Err status) = (fault : AuditFault) × aud.Decides audit (No fault) × (status ≡ AuditNo fault)
+
+abbrev pub audit : Source → Options → Stage (List ℕ)
+audit source options = do
+  inputs ← inputs_read source options
+  doc ← document source New (text_or opt.New options)
+  accepted ← verdict (aud.audit_of inputs.kernel.doc doc inputs.kernel.clock inputs.kernel.triples (sc_of options) inputs.observations
+      (record {
+        tolerance = (settings_of options).tolerance;
+        rate_decimals = (settings_of options).rate_decimals;
+        band = (settings_of options).band;
+        slip = (settings_of options).slip;
+        hold = (settings_of options).hold;
+        reject = (settings_of options).reject;
+      }))
+  gives (line_of (codes "yes" ∷ []))
+
+-- the files of `--over`, numbered from 1
+abbrev pub over_documents : Source → ℕ → List (List ℕ) → Stage (List DocView)
+over_documents source place [] = gives []
+over_documents source place (name ∷ names) = do
+  doc ← document source (Over place) name
+  docs ← over_documents source (place + 1) names
+  gives (doc ∷ docs)
+
+-- the part of a kernel from one tick to another
+abbrev pub cut_out : Options → KernelRead → Stage DocView
+cut_out options kernel =
+    let from = number_or 0 opt.From options in
+    let to = number_or 0 opt.To options in
+    judged (Judges (ex.excerpt_checks (total kernel.clock) kernel.triples.triples from to)
+    (ex.IsExcerpt kernel.doc (sc_of options) kernel.triples.triples from to)) ExcerptRefused
+
+abbrev pub excerpt : Source → Options → Stage (List ℕ)
+excerpt source options = do
+  first ← kernel_document source options
+  docs ← over_documents source 1 (option_map_or over_names (options opt.Over) [])
+  kernel ← kernel_meaning (sc_of options) (ex.joined (first ∷ docs))
+  doc ← cut_out options kernel
+  gives (canonical_text doc)
+
+abbrev pub least : Source → Options → Stage (List ℕ)
+least source options = do
+  inputs ← inputs_read source options
+  stretches ← some (cover.AreLeast (lengths inputs.kernel.clock) (settings_of options).tolerance.units (sights inputs.observations))
+  gives (least_text inputs.observations stretches)
+
+-- ---- the whole
+
+abbrev pub outcome_of : Command → Source → Options → Stage (List ℕ)
+outcome_of Publish = publish
+outcome_of Residuals = residuals
+outcome_of Normal = normal
+outcome_of Convert = convert
+outcome_of Invert = invert
+
+-- the words
+abbrev pub requested : List (List ℕ) → Stage Request
+requested words = judged (WordsAsk words) WordsRefused
+
+-- what the words come to where they ask for a command, the first of which stands for the program's name
+abbrev pub commanded : List (List ℕ) → Source → Stage (List ℕ)
+commanded words source = do
+  request ← requested words
+  outcome_of request.command source request.options
+
+-- the page of the topic, if there is one
+abbrev pub told_or : Option Topic → Stage (List ℕ) → Stage (List ℕ)
+told_or (Some topic) next = gives (page_of topic)
+told_or None next = next
+
+-- The text that a run writes, or the first refusal. Words that ask about the program have its page, and read no file.
+abbrev pub outcome : List (List ℕ) → Source → Stage (List ℕ)
+outcome words source = told_or (topic_of (codes "station" ∷ words)) (commanded (codes "station" ∷ words) source)
