@@ -30,6 +30,7 @@ use Rattle.sk_triples.proofs.Decimals.{is_rate}
 use Rattle.sk_triples.proofs.ReadRows.{in_order}
 use Rattle.sk_triples.proofs.KernelOf.{AreRows, accepted}
 use Rattle.sk_publication.proofs.Reduced.{reduced_units}
+use Rattle.sk_excerpt.proofs.Rows.{rows_if_some}
 use Rattle.sk_outcome.specs.Files.{TriplesOf}
 
 -- ---- the rows of the new triples
@@ -140,16 +141,6 @@ values_behind_block doc sc id new table =
     ∙ ap (λ (values : List Value). values ++ flat_map triple_values new) (behind_id sc (items_of doc) id)
 
 -- ---- the old triples
-
-rows_if_some : (values : List Value) → (((rows : List Row) → values ≢ flat_map row_values rows) → ⊥) → AreRows values
-rows_if_some values some =
-    elim (cases_Bool (in_rows values)) [
-      | inl rows ↦ threes values rows
-      | inr others ↦ absurd (some (λ rows e. false≢true (sym others ∙ are_in_rows values (own rows e))))
-    ]
-  where
-    own : (rows : List Row) → values ≡ flat_map row_values rows → AreRows values
-    own rows e = e ∙ ap (flat_map row_values) (sym (ap rows_of e ∙ rows_back rows))
 
 found_at : (o : Option (List Value)) (values : List Value) → unwrap_or o [] ≡ values → 0 < length values → o ≡ Some values
 found_at None values e some = let none : length values ≡ 0 = ap length (sym e) in absurd (omega arith)
