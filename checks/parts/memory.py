@@ -1,0 +1,130 @@
+"""Runs with little memory, and how much of it the commands take for the largest files."""
+import resource
+import subprocess
+import sys
+
+import texts
+from ends import MIB
+from faults import COMMANDS
+from sizes import filled, kernel_of, partitioned, records
+from texts import HEADER, LIMIT, PARTITIONS, RECORDS, SMALL, TRIPLES
+
+FIRST = 4 * MIB  # bytes of address space of the first run
+STEP = 32 * 1024
+MEASURE = """
+import os, resource, sys
+status = os.waitpid(os.posix_spawn(sys.argv[1], sys.argv[1:], os.environ), 0)[1]
+used = resource.getrusage(resource.RUSAGE_CHILDREN).ru_maxrss
+print(os.waitstatus_to_exitcode(status), used, file=sys.stderr)
+"""
+
+
+def walk():
+    """Observations of a clock that wanders so that some thousand new triples are needed."""
+    state, off, rows = 1, 0, []
+    for number in range(1, RECORDS + 1):
+        state = (state * 1664525 + 1013904223) % 2**32
+        off += state % 200001 - 100000
+        whole, part = divmod(100 * number * 10**9 + off, 10**9)
+        rows.append(f"s{number},tick:{25600 * number},tdt:{whole}.{part:09d},0\n")
+    return HEADER + "".join(rows)
+
+
+def numbered(form, size):
+    """Lines of a form with rising numbers, up to that size."""
+    lines, length, number = [], 0, 0
+    while length < size:
+        lines.append(form.format(number))
+        length, number = length + len(lines[-1]), number + 1
+    return "".join(lines[:-1])
+
+
+def largest():
+    """The kernels and the observations that take most, by name."""
+    data = SMALL.removesuffix("\\begintext\n")
+    room = LIMIT - len(data) - 20
+    triple = "    2.2118400000000E+07    8.6400000100000E+04    1.0000000010000E+00\n"
+    vector = lambda line: data + "X = (\n" + line * ((room - 10) // len(line)) + ")\n\\begintext\n"
+    many = [f"{256 * k} {k} 1" for k in range(TRIPLES)]
+    return {
+        "prose": filled(SMALL, "A comment line of a kernel, of a usual length, with nothing special in it at all.\n", LIMIT),
+        "lines `x`": filled(SMALL, "x\n", LIMIT),
+        "triples of another variable": vector(triple),
+        "a vector of `1`": vector("1 1 1\n"),
+        "a vector of texts": vector("'' ''\n"),
+        "variables": data + numbered("v{:x}=1\n", room) + "\\begintext\n",
+        "items of one variable": data + "A+=1\n" * (room // 5) + "\\begintext\n",
+        "50,000 triples": kernel_of(many),
+        "9,999 partitions": partitioned(PARTITIONS, 100_000_000),
+        "small": SMALL,
+    }
+
+
+def greatest_memory(program, words, folder):
+    """The status, and the greatest resident memory of a run in bytes, as a small process measures it."""
+    small = [sys.executable, "-I", "-S", "-c", MEASURE]
+    ran = subprocess.run([*small, program.path, *words], cwd=folder, stdout=subprocess.DEVNULL, stderr=subprocess.PIPE, text=True)
+    status, kilobytes = ran.stderr.split()[-2:]
+    return int(status), int(kilobytes) * 1024
+
+
+def measured(report):
+    """Prints a table in Markdown: each command on the largest files."""
+    kernels = largest()
+    seen = {
+        "100,000 records": records(RECORDS),
+        "100,000 records, many new triples": walk(),
+        "empty lines": filled(HEADER, "\n", LIMIT),
+        "a record of 16 million fields": HEADER + "," * (LIMIT - len(HEADER)),
+        "the header": HEADER,
+    }
+    print("| Command | Kernel | Observations | Files, MB | Status | Greatest resident memory, MB | Times the files |")
+    print("|---|---|---|---|---|---|---|")
+    for kernel, text in kernels.items():
+        report.write(k=text)
+        for words in ("normal --kernel=k", "convert --kernel=k --sc=99 --clock=1/5"):
+            row(report, words, kernel, "", len(text))
+        report.write(o=HEADER)
+        for command in ("residuals", "publish"):
+            row(report, f"{command} --kernel=k --obs=o --sc=99", kernel, "the header", len(text))
+    report.write(k=SMALL)
+    for name, text in seen.items():
+        report.write(o=text)
+        for command in ("residuals", "publish"):
+            row(report, f"{command} --kernel=k --obs=o --sc=99", "small", name, len(SMALL) + len(text))
+
+
+def row(report, words, kernel, seen, size):
+    status, memory = greatest_memory(report.program, words.split(), report.folder)
+    cells = words.split()[0].join("``"), kernel, seen, f"{size / 1e6:.1f}", status, f"{memory / 1e6:.0f}", f"{memory / size:.1f}"
+    print("|", " | ".join(map(str, cells)), "|", flush=True)
+
+
+def spaces(report, name, words, out, start, step):
+    """Runs in address spaces from the first one upwards, until one is done: each before it ends with 9 and nothing written."""
+    space, begun = start, False
+    while space < 4096 * MIB:
+        end = report.run(words, limits=[(resource.RLIMIT_AS, space)])
+        if end.status == 0:
+            return report.is_done(f"{name} in {space} bytes", end, out)
+        if begun or end.line.startswith("refused;"):
+            begun = True  # before that the host could not even start it
+            report.is_refused(f"{name} in {space} bytes", end, "refused;9;Memory")
+        space += step(space)
+    return report.check(f"{name} is done in the end", False, end)
+
+
+def check(report):
+    """All in small steps on small files, and in steps of an eighth on large ones."""
+    report.write(**texts.FILES)
+    small, eighth = (lambda space: STEP), (lambda space: space // 8)
+    for name, (words, _) in COMMANDS.items():
+        spaces(report, name, words, report.run(words).out, FIRST, small)
+    report.write(k=SMALL, o=walk())
+    for command in ("publish", "residuals"):
+        words = f"{command} --kernel=k --obs=o --sc=99"
+        spaces(report, f"{command} of {RECORDS} records", words, report.run(words).out, FIRST, eighth)
+    for name in ("lines `x`", "a vector of `1`", "variables"):
+        report.write(k=largest()[name])
+        for words in ("normal --kernel=k", "convert --kernel=k --sc=99 --clock=1/5"):
+            spaces(report, f"{words.split()[0]} of {name}", words, report.run(words).out, FIRST, eighth)
