@@ -1,4 +1,4 @@
-"""Streams and files of a host that fail: full disks, closed pipes, what is no file or cannot be read, what comes in pieces."""
+"""Streams and files of a host that fail: full disks, closed pipes, what cannot be read, what comes in pieces."""
 import fcntl
 import os
 import resource
@@ -224,7 +224,7 @@ def growing(report):
 
 
 def file_size(report):
-    """A limit on the size of files that are written: by its signal, which ends any program, and with the signal ignored."""
+    """A limit on the size of what is written, with its signal ignored; not ignored it ends any program."""
     report.write(**texts.FILES)
     whole = len(texts.PUBLISHED)
     for limit in [0, 1, 10, 20, *range(100, whole, 97), whole - 1]:
@@ -244,7 +244,20 @@ def file_size(report):
     report.check("the signal of a file size limit, which is not ignored", end.status == -signal.SIGXFSZ, end)
 
 
+PARTS = (
+    done_runs,
+    full_disks,
+    refusals_without_notes,
+    closed_outputs,
+    cut_outputs,
+    no_files,
+    no_permission,
+    pieces,
+    growing,
+    file_size,
+)
+
+
 def check(report):
-    for part in (done_runs, full_disks, refusals_without_notes, closed_outputs, cut_outputs, no_files, no_permission, pieces,
-                 growing, file_size):
+    for part in PARTS:
         part(report)

@@ -11,6 +11,7 @@ from texts import HEADER, LIMIT, PARTITIONS, RECORDS, SMALL, TRIPLES
 
 FIRST = 4 * MIB  # bytes of address space of the first run
 STEP = 32 * 1024
+PROSE = "A comment line of a kernel, of a usual length, with nothing special in it at all.\n"
 MEASURE = """
 import os, resource, sys
 status = os.waitpid(os.posix_spawn(sys.argv[1], sys.argv[1:], os.environ), 0)[1]
@@ -47,7 +48,7 @@ def largest():
     vector = lambda line: data + "X = (\n" + line * ((room - 10) // len(line)) + ")\n\\begintext\n"
     many = [f"{256 * k} {k} 1" for k in range(TRIPLES)]
     return {
-        "prose": filled(SMALL, "A comment line of a kernel, of a usual length, with nothing special in it at all.\n", LIMIT),
+        "prose": filled(SMALL, PROSE, LIMIT),
         "lines `x`": filled(SMALL, "x\n", LIMIT),
         "triples of another variable": vector(triple),
         "a vector of `1`": vector("1 1 1\n"),
@@ -62,8 +63,9 @@ def largest():
 
 def greatest_memory(program, words, folder):
     """The status, and the greatest resident memory of a run in bytes, as a small process measures it."""
-    small = [sys.executable, "-I", "-S", "-c", MEASURE]
-    ran = subprocess.run([*small, program.path, *words], cwd=folder, stdout=subprocess.DEVNULL, stderr=subprocess.PIPE, text=True)
+    measured_by = [sys.executable, "-I", "-S", "-c", MEASURE]
+    streams = dict(stdout=subprocess.DEVNULL, stderr=subprocess.PIPE, text=True)
+    ran = subprocess.run([*measured_by, program.path, *words], cwd=folder, **streams)
     status, kilobytes = ran.stderr.split()[-2:]
     return int(status), int(kilobytes) * 1024
 
@@ -96,12 +98,12 @@ def measured(report):
 
 def row(report, words, kernel, seen, size):
     status, memory = greatest_memory(report.program, words.split(), report.folder)
-    cells = words.split()[0].join("``"), kernel, seen, f"{size / 1e6:.1f}", status, f"{memory / 1e6:.0f}", f"{memory / size:.1f}"
-    print("|", " | ".join(map(str, cells)), "|", flush=True)
+    figures = f"{size / 1e6:.1f}", status, f"{memory / 1e6:.0f}", f"{memory / size:.1f}"
+    print("|", " | ".join(map(str, (f"`{words.split()[0]}`", kernel, seen, *figures))), "|", flush=True)
 
 
 def spaces(report, name, words, out, start, step):
-    """Runs in address spaces from the first one upwards, until one is done: each before it ends with 9 and nothing written."""
+    """Runs in address spaces from the first one upwards until one is done. Each before ends with 9, nothing written."""
     space, begun = start, False
     while space < 4096 * MIB:
         end = report.run(words, limits=[(resource.RLIMIT_AS, space)])

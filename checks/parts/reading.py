@@ -1,7 +1,7 @@
 """Reads the files of an accepted publication apart from the program, for the fitter of cross-checks/.
 
-Kernels by NAIF's Kernel Required Reading, observations as docs/FILES.md describes them. What has to be refused is not looked
-for, as only files that were taken come here. Bytes are letters of Latin-1.
+Kernels by NAIF's Kernel Required Reading, observations as docs/FILES.md describes them. What has to be refused is not
+looked for, as only files that were taken come here. Bytes are letters of Latin-1.
 """
 import csv
 import io
@@ -22,7 +22,9 @@ __all__ = ["Document", "block", "canonical", "document", "publication"]
 FIRST_WORD = re.compile(r"[ \t]*([^\s(),=']+)[ \t]*(=?)")
 VALUE = re.compile(r"'(?:[^']|'')*'|[(),]|[^\s,()']+")
 NUMBER = re.compile(r"([+-]?)(\d*)\.?(\d*)(?:[EeDd]([+-]?\d+))?")
-DATE = re.compile(r"@(\d{4})-(\d\d)-(\d\d)|@(\d{4})-([A-Za-z]{3})-(\d\d?)|@(\d\d?)-([A-Za-z]{3})-(\d{4})|@(\d{4})-(\d{3})")
+DATE = re.compile(
+    r"@(\d{4})-(\d\d)-(\d\d)|@(\d{4})-([A-Za-z]{3})-(\d\d?)|@(\d\d?)-([A-Za-z]{3})-(\d{4})|@(\d{4})-(\d{3})"
+)
 MONTHS = "JAN FEB MAR APR MAY JUN JUL AUG SEP OCT NOV DEC".split()
 J2000 = date(2000, 1, 1)
 

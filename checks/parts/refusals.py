@@ -13,7 +13,7 @@ FURTHER = {  # words of a line that go on with those of a table under this headi
 }
 
 
-def tables(page):
+def rows_of(page):
     """The rows of the tables by the heading above them, each a list of cells without the header."""
     heading, found = None, {}
     for line in page.split("\n"):
@@ -29,16 +29,17 @@ def spans(cell):
 
 
 def further(found, heading):
-    """The words that a table explains; those that stand for others by FAULT are left out, as the others are listed too."""
-    words = [word for row in found[heading] for word in spans(row[0]) if "FAULT" not in word]
-    return words + ([word for word in further(found, "Time codes") if word.startswith("Cuc")] if heading == "Clock words" else [])
+    """The words that a table explains. FAULT stands for any word of the time codes."""
+    words = [word for row in found[heading] for word in spans(row[0])]
+    codes = further(found, "Time codes") if any("FAULT" in word for word in words) else []
+    return words + codes
 
 
 class Documented:
     """Tells whether a line with this status is one that the page lists."""
 
     def __init__(self):
-        found = tables(PAGE.read_text(encoding="utf-8"))
+        found = rows_of(PAGE.read_text(encoding="utf-8"))
         rows = [row for listed in found.values() for row in listed if row[0].startswith("`refused;")]
         self.forms = re.compile("|".join(form for row in rows for form in self.forms_of(row, found)))
 
@@ -47,7 +48,8 @@ class Documented:
         """The forms of a row's lines: numbers are any numbers, and the last word is any that the row or a table has."""
         for line in spans(row[0]):
             words = line.split(";")
-            table = next((name for name in words[2:-1] if name in FURTHER and not (name == "Clock" and words[1] != "5")), None)
+            tables = (name for name in words[2:-1] if name in FURTHER and (name != "Clock" or words[1] == "5"))
+            table = next(tables, None)
             if table:
                 begun, last = words[: words.index(table) + 1 + (table == "Grammar")], further(found, FURTHER[table])
             elif words[2] in ("NeedOption", "OutOfRange"):
@@ -55,7 +57,8 @@ class Documented:
             else:
                 begun, last = words[:-1], [words[-1]] + [word for cell in row[1:] for word in spans(cell)]
             for word in last:
-                yield ";".join(r"\d+" if part.isdigit() and at > 1 else re.escape(part) for at, part in enumerate([*begun, word]))
+                parts = enumerate([*begun, word])
+                yield ";".join(r"\d+" if part.isdigit() and at > 1 else re.escape(part) for at, part in parts)
 
     def has(self, line, status):
         return bool(self.forms.fullmatch(line)) and line.split(";")[1] == str(status)

@@ -1,8 +1,8 @@
 """Faults and cuts at every place of a run: how far it comes, and what it says.
 
-A host's file cannot be made to fail at its third read, nor a stream to take ten bytes a time. What is nearest is done: files that
-fail when they are opened or read, a limit on the size of what is written (in faults.py), and, where strace is, calls of the
-host that are made to fail one after the other.
+A host's file cannot be made to fail at its third read, nor a stream to take ten bytes a time. What is nearest is done:
+files that fail when they are opened or read, a limit on the size of what is written (both in faults.py), and, where
+strace is, calls of the host that are made to fail one after the other.
 """
 import shutil
 
@@ -11,7 +11,7 @@ from texts import HEADER, SMALL
 
 
 def cut_kernels(report):
-    """The first bytes of a kernel, for each number of them. Its last line may be cut off whole, or lack its line feed."""
+    """The first bytes of a kernel, for each number of them. Its last line may be missing, or lack its line feed."""
     report.write(o=HEADER)
     length = len(SMALL)
     whole = (length, length - 1, length - 11, length - 12)
@@ -47,7 +47,8 @@ def cut_leap_seconds(report):
     for count in range(0, len(texts.LEAP), 7):
         report.write(l=texts.LEAP[:count])
         end = report.run("convert --leap=l --kernel=k --sc=99 --clock=1/5")
-        report.check(f"the first {count} bytes of leap seconds: 0 or 3", end.status == 0 or end.status == 3 and not end.out, end)
+        holds = end.status == 0 or end.status == 3 and not end.out
+        report.check(f"the first {count} bytes of leap seconds: 0 or 3", holds, end)
 
 
 def failing_calls(report):
@@ -76,7 +77,8 @@ def failing_writes(report):
             if end.status == 0:
                 report.is_done(f"an answer in fewer than {number} writes", end, wanted)
                 continue
-            holds = (end.status, end.line) == (8, "refused;8;Write") and wanted.startswith(end.out) and end.out != wanted
+            prefix = wanted.startswith(end.out) and end.out != wanted
+            holds = (end.status, end.line) == (8, "refused;8;Write") and prefix
             report.check(f"write {number} fails with {fault}", holds, end)
 
 

@@ -1,4 +1,4 @@
-"""The files that most runs here are about: a small kernel, an old one, leap seconds, observations, and what must come of them.
+"""The files that most runs here are about: kernels, leap seconds, observations, and what must come of them.
 
 What must be written was computed by hand, with the exact arithmetic that examples/TOUR.md shows on another kernel.
 """
@@ -30,8 +30,8 @@ SCLK01_COEFFICIENTS_99 = (
 )
 \\begintext
 """
-TWO_LIVES = SMALL.replace("START_99 = 0", "START_99 = (\n0 0\n)").replace("END_99 = 1", "END_99 = (\n1000000 1").replace(
-    "7775\n", "7775\n)\n"
+TWO_LIVES = SMALL.replace("START_99 = 0\n", "START_99 = (\n0 0\n)\n").replace(
+    "END_99 = 1099511627775\n", "END_99 = (\n1000000 1099511627775\n)\n"
 )
 
 OLD = """KPL/SCLK
