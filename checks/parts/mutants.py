@@ -1,7 +1,7 @@
 """Mutated kernels, leap seconds, observation files and words, by fixed seeds: how runs on them end.
 
 Each run must end within seconds, by no signal, with a status and a line that docs/REFUSALS.md lists, and write nothing
-where it is refused. `normal` must write what an independent reader makes of the mutated kernel; and a publication that is
+where it is refused. `normal` must write what an independent reader makes of the mutated kernel. A publication that is
 accepted must be, to the byte, that of the fitter of cross-checks/ for what was read.
 """
 import os

@@ -1,4 +1,4 @@
-"""How files, options and words are mutated: bytes, numbers, lines, and words that are hostile to one form or another."""
+"""How files, options and words are mutated: bytes, numbers, lines, and words that are hostile to some form."""
 import re
 
 HOSTILE = """
