@@ -123,8 +123,6 @@ def no_files(report):
             report.is_refused(f"{option}: {what}", end, f"refused;7;{kind}")
         end = report.run(["publish", f"--leap={name}", f"--kernel={name}", f"--obs={name}", "--sc=99"])
         report.is_refused(f"all three: {what}", end, "refused;7;Leap")
-    end = report.run(texts.PUBLISH, limits=[(resource.RLIMIT_NOFILE, 3)])
-    report.is_refused("no file may be opened", end, "refused;7;Leap")
 
 
 def no_permission(report):

@@ -9,8 +9,11 @@ from faults import COMMANDS
 from sizes import filled, kernel_of, partitioned, records
 from texts import HEADER, LIMIT, PARTITIONS, RECORDS, SMALL, TRIPLES
 
-FIRST = 4 * MIB  # bytes of address space of the first run
-STEP = 32 * 1024
+LEAST, FIRST = 2 * MIB, 4 * MIB  # bytes of address space of the first run, on small files and on large ones
+STEP = 16 * 1024
+MOST = 4096 * MIB
+NOT_LOADED = 127
+FLOOR = 10_000_000  # bytes
 PROSE = "A comment line of a kernel, of a usual length, with nothing special in it at all.\n"
 MEASURE = """
 import os, resource, sys
@@ -62,7 +65,7 @@ def largest():
 
 
 def greatest_memory(program, words, folder):
-    """The status, and the greatest resident memory of a run in bytes, as a small process measures it."""
+    """The status, and the greatest resident memory of a run in bytes; below FLOOR it is the measuring process's own."""
     measured_by = [sys.executable, "-I", "-S", "-c", MEASURE]
     streams = dict(stdout=subprocess.DEVNULL, stderr=subprocess.PIPE, text=True)
     ran = subprocess.run([*measured_by, program.path, *words], cwd=folder, **streams)
@@ -98,35 +101,38 @@ def measured(report):
 
 def row(report, words, kernel, seen, size):
     status, memory = greatest_memory(report.program, words.split(), report.folder)
-    figures = f"{size / 1e6:.1f}", status, f"{memory / 1e6:.0f}", f"{memory / size:.1f}"
+    told = (f"{memory / 1e6:.0f}", f"{memory / size:.1f}") if memory > FLOOR else ("below 10", "")
+    figures = f"{size / 1e6:.1f}", status, *told
     print("|", " | ".join(map(str, (f"`{words.split()[0]}`", kernel, seen, *figures))), "|", flush=True)
 
 
 def spaces(report, name, words, out, start, step):
-    """Runs in address spaces from the first one upwards until one is done. Each before ends with 9, nothing written."""
+    """Runs in address spaces from the first one upwards until one is done. Each before ends with 9, nothing written.
+
+    In the least ones the host cannot load the program, and ends it with a status of its own.
+    """
     space, begun = start, False
-    while space < 4096 * MIB:
+    while space < MOST:
         end = report.run(words, limits=[(resource.RLIMIT_AS, space)])
         if end.status == 0:
             return report.is_done(f"{name} in {space} bytes", end, out)
-        if begun or end.line.startswith("refused;"):
-            begun = True  # before that the host could not even start it
+        begun = begun or end.status != NOT_LOADED
+        if begun:
             report.is_refused(f"{name} in {space} bytes", end, "refused;9;Memory")
         space += step(space)
     return report.check(f"{name} is done in the end", False, end)
 
 
 def check(report):
-    """All in small steps on small files, and in steps of an eighth on large ones."""
+    """Small steps on small files, greater ones on many records, and twice as much each time for many variables."""
     report.write(**texts.FILES)
-    small, eighth = (lambda space: STEP), (lambda space: space // 8)
+    small, eighth, twice = (lambda space: STEP), (lambda space: space // 8), (lambda space: space)
     for name, (words, _) in COMMANDS.items():
-        spaces(report, name, words, report.run(words).out, FIRST, small)
+        spaces(report, name, words, report.run(words).out, LEAST, small)
     report.write(k=SMALL, o=walk())
     for command in ("publish", "residuals"):
         words = f"{command} --kernel=k --obs=o --sc=99"
         spaces(report, f"{command} of {RECORDS} records", words, report.run(words).out, FIRST, eighth)
-    for name in ("lines `x`", "a vector of `1`", "variables"):
-        report.write(k=largest()[name])
-        for words in ("normal --kernel=k", "convert --kernel=k --sc=99 --clock=1/5"):
-            spaces(report, f"{words.split()[0]} of {name}", words, report.run(words).out, FIRST, eighth)
+    report.write(k=largest()["variables"])
+    for words in ("normal --kernel=k", "convert --kernel=k --sc=99 --clock=1/5"):
+        spaces(report, f"{words.split()[0]} of the most variables", words, report.run(words).out, FIRST, twice)

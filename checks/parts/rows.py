@@ -54,13 +54,14 @@ def cut_leap_seconds(report):
 def failing_calls(report):
     """The calls by which files are opened and read fail: 7, with the file that it is about, and nothing written."""
     report.write(**texts.FILES)
+    words = "publish --leap={0}/l --kernel={0}/k --obs={0}/o --sc=99".format(report.folder)
     for call, fault in (("openat", "EMFILE"), ("openat", "EIO"), ("read", "EIO"), ("read", "EISDIR")):
         for name, kind in {"l": "Leap", "k": "Kernel", "o": "Observations"}.items():
-            end = report.run(texts.PUBLISH, under=traced(name, call, fault, "1"))
+            end = report.run(words, under=traced(report.folder / name, call, fault, "1"))
             report.is_refused(f"{call} of {name} fails with {fault}", end, f"refused;7;{kind}")
     for number in (2, 3):
         report.write(k=SMALL + "x\n" * 300_000)
-        end = report.run("normal --kernel=k", under=traced("k", "read", "EIO", number))
+        end = report.run("normal --kernel=k", under=traced(report.folder / "k", "read", "EIO", number))
         report.is_refused(f"read {number} of a kernel fails", end, "refused;7;Kernel")
 
 
@@ -70,8 +71,9 @@ def failing_writes(report):
     wanted = (report.folder / "k").read_bytes()
     for fault in ("ENOSPC", "EIO", "EPIPE", "EDQUOT"):
         for number in (1, 2, 3):
+            under = traced(report.folder / "out", "write", fault, f"{number}+")
             with open(report.folder / "out", "wb+") as out:
-                end = report.run("normal --kernel=k", stdout=out, under=traced("out", "write", fault, f"{number}+"))
+                end = report.run("normal --kernel=k", stdout=out, under=under)
                 out.seek(0)
                 end.out = out.read()
             if end.status == 0:
@@ -82,9 +84,9 @@ def failing_writes(report):
             report.check(f"write {number} fails with {fault}", holds, end)
 
 
-def traced(name, call, fault, when):
+def traced(path, call, fault, when):
     """The words of strace that make this call fail on a file."""
-    return ["strace", "-qq", "-o", "trace", "-P", name, "-e", f"inject={call}:error={fault}:when={when}"]
+    return ["strace", "-qq", "-o", "trace", "-P", path, "-e", f"inject={call}:error={fault}:when={when}"]
 
 
 def check(report):

@@ -6,9 +6,9 @@ COEFFICIENTS = "SCLK01_COEFFICIENTS_99 = (\n0 0 1\n)\n"
 
 
 def filled(start, line, size):
-    """A text of just as many bytes: the start, and then lines, the last one as long as is needed."""
+    """A text of just as many bytes: the start, and then lines, the last of which begins with as much as is missing."""
     missing = size - len(start) - len(line)
-    return start + line * (missing // len(line)) + line[:-1] * (missing % len(line)) + line
+    return start + line * (missing // len(line)) + line[:1] * (missing % len(line)) + line
 
 
 def kernel_of(triples):
