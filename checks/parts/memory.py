@@ -2,6 +2,8 @@
 import resource
 import subprocess
 import sys
+from itertools import product
+from string import ascii_letters, digits
 
 import texts
 from ends import MIB
@@ -34,13 +36,15 @@ def walk():
     return HEADER + "".join(rows)
 
 
-def numbered(form, size):
-    """Lines of a form with rising numbers, up to that size."""
-    lines, length, number = [], 0, 0
-    while length < size:
-        lines.append(form.format(number))
-        length, number = length + len(lines[-1]), number + 1
-    return "".join(lines[:-1])
+def variables(size):
+    """As many variables as have room, with the shortest names."""
+    lines, length = [], 0
+    for width in range(1, 5):
+        for letters in product(ascii_letters + digits, repeat=width):
+            lines.append("".join(letters) + "=1\n")
+            length += width + 3
+            if length > size:
+                return "".join(lines[:-1])
 
 
 def largest():
@@ -56,7 +60,7 @@ def largest():
         "triples of another variable": vector(triple),
         "a vector of `1`": vector("1 1 1\n"),
         "a vector of texts": vector("'' ''\n"),
-        "variables": data + numbered("v{:x}=1\n", room) + "\\begintext\n",
+        "variables": data + variables(room) + "\\begintext\n",
         "items of one variable": data + "A+=1\n" * (room // 5) + "\\begintext\n",
         "50,000 triples": kernel_of(many),
         "9,999 partitions": partitioned(PARTITIONS, 100_000_000),
