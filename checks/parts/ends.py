@@ -11,7 +11,7 @@ from pathlib import Path
 TOP = Path(__file__).resolve().parents[2]
 sys.path.insert(0, str(TOP / "cross-checks"))
 
-SECONDS = 60  # a run that takes longer hangs
+SECONDS = 120  # a run that takes longer hangs
 MIB = 2**20
 
 

@@ -1,4 +1,5 @@
 """Streams and files of a host that fail: full disks, closed pipes, what cannot be read, what comes in pieces."""
+import contextlib
 import fcntl
 import os
 import resource
@@ -108,8 +109,8 @@ def no_files(report):
     (room / "folder").mkdir()
     os.symlink("loop", room / "loop")
     os.symlink("nowhere", room / "dangling")
-    with socket.socket(socket.AF_UNIX) as listener:
-        listener.bind(str(room / "socket"))
+    with contextlib.suppress(OSError), socket.socket(socket.AF_UNIX) as listener:
+        listener.bind(str(room / "socket"))  # a long path is refused, and then nothing is there
     names = {
         "missing": "nothing there", "folder": "a folder", "loop": "a link to itself", "dangling": "a link to nothing",
         "socket": "a socket", "k/x": "a file as a folder", "x" * 300: "a long name", "x/" * 3000: "a long path",
@@ -136,8 +137,8 @@ def no_permission(report):
     run = lambda: program.run(texts.PUBLISH.split(), folder=room, before=become)
     try:
         report.is_done("files that may only be read", run(), texts.PUBLISHED)
-    except PermissionError:
-        return report.leave_out("files without permission", f"nobody may run no program in {room}")
+    except (PermissionError, subprocess.SubprocessError):
+        return report.leave_out("files without permission", f"the program cannot be run as nobody in {room}")
     for name, kind in (("l", "Leap"), ("k", "Kernel"), ("o", "Observations")):
         (room / name).chmod(0)
         report.is_refused(f"no permission to read {name}", run(), f"refused;7;{kind}")
