@@ -15,6 +15,7 @@ LEAST, FIRST = 2 * MIB, 4 * MIB  # bytes of address space of the first run, on s
 STEP = 16 * 1024
 MOST = 4096 * MIB
 NOT_LOADED = 127
+STACK = 256 * 1024  # bytes, a thirtieth of what is usual
 FLOOR = 10_000_000  # bytes
 PROSE = "A comment line of a kernel, of a usual length, with nothing special in it at all.\n"
 MEASURE = """
@@ -127,12 +128,19 @@ def spaces(report, name, words, out, start, step):
     return report.check(f"{name} is done in the end", False, end)
 
 
+def little_stack(report):
+    for name, (words, _) in COMMANDS.items():
+        end = report.run(words, limits=[(resource.RLIMIT_STACK, STACK)])
+        report.is_done(f"{name} with a stack of {STACK} bytes", end, report.run(words).out)
+
+
 def check(report):
     """Small steps on small files, greater ones on many records, and twice as much each time for many variables."""
     report.write(**texts.FILES)
     small, eighth, twice = (lambda space: STEP), (lambda space: space // 8), (lambda space: space)
     for name, (words, _) in COMMANDS.items():
         spaces(report, name, words, report.run(words).out, LEAST, small)
+    little_stack(report)
     report.write(k=SMALL, o=walk())
     for command in ("publish", "residuals"):
         words = f"{command} --kernel=k --obs=o --sc=99"
