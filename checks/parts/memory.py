@@ -93,38 +93,44 @@ def measured(report):
     for kernel, text in kernels.items():
         report.write(k=text)
         for words in ("normal --kernel=k", "convert --kernel=k --sc=99 --clock=1/5"):
-            row(report, words, kernel, "", len(text))
+            row(report, words, (kernel, ""), len(text))
         report.write(o=HEADER)
         for command in ("residuals", "publish"):
-            row(report, f"{command} --kernel=k --obs=o --sc=99", kernel, "the header", len(text))
+            row(report, f"{command} --kernel=k --obs=o --sc=99", (kernel, "the header"), len(text))
     report.write(k=SMALL)
     for name, text in seen.items():
         report.write(o=text)
         for command in ("residuals", "publish"):
-            row(report, f"{command} --kernel=k --obs=o --sc=99", "small", name, len(SMALL) + len(text))
+            row(report, f"{command} --kernel=k --obs=o --sc=99", ("small", name), len(SMALL) + len(text))
 
 
-def row(report, words, kernel, seen, size):
+def row(report, words, files, size):
     status, memory = greatest_memory(report.program, words.split(), report.folder)
     told = (f"{memory / 1e6:.0f}", f"{memory / size:.1f}") if memory > FLOOR else ("below 10", "")
     figures = f"{size / 1e6:.1f}", status, *told
-    print("|", " | ".join(map(str, (f"`{words.split()[0]}`", kernel, seen, *figures))), "|", flush=True)
+    print("|", " | ".join(map(str, (f"`{words.split()[0]}`", *files, *figures))), "|", flush=True)
 
 
-def spaces(report, name, words, out, start, step):
-    """Runs in address spaces from the first one upwards until one is done. Each before ends with 9, nothing written.
+def in_steps(first, step):
+    """Sizes from the first one on, each greater by what `step` says of it."""
+    while first < MOST:
+        yield first
+        first += step(first)
+
+
+def spaces(report, name, words, sizes):
+    """Runs in address spaces of these sizes until one is done. Each before ends with 9 and nothing written.
 
     In the least ones the host cannot load the program, and ends it with a status of its own.
     """
-    space, begun = start, False
-    while space < MOST:
-        end = report.run(words, limits=[(resource.RLIMIT_AS, space)])
+    wanted, begun = report.run(words).out, False
+    for size in sizes:
+        end = report.run(words, limits=[(resource.RLIMIT_AS, size)])
         if end.status == 0:
-            return report.is_done(f"{name} in {space} bytes", end, out)
+            return report.is_done(f"{name} in {size} bytes", end, wanted)
         begun = begun or end.status != NOT_LOADED
         if begun:
-            report.is_refused(f"{name} in {space} bytes", end, "refused;9;Memory")
-        space += step(space)
+            report.is_refused(f"{name} in {size} bytes", end, "refused;9;Memory")
     return report.check(f"{name} is done in the end", False, end)
 
 
@@ -137,14 +143,13 @@ def little_stack(report):
 def check(report):
     """Small steps on small files, greater ones on many records, and twice as much each time for many variables."""
     report.write(**texts.FILES)
-    small, eighth, twice = (lambda space: STEP), (lambda space: space // 8), (lambda space: space)
     for name, (words, _) in COMMANDS.items():
-        spaces(report, name, words, report.run(words).out, LEAST, small)
+        spaces(report, name, words, in_steps(LEAST, lambda size: STEP))
     little_stack(report)
     report.write(k=SMALL, o=walk())
     for command in ("publish", "residuals"):
         words = f"{command} --kernel=k --obs=o --sc=99"
-        spaces(report, f"{command} of {RECORDS} records", words, report.run(words).out, FIRST, eighth)
+        spaces(report, f"{command} of {RECORDS} records", words, in_steps(FIRST, lambda size: size // 8))
     report.write(k=largest()["variables"])
     for words in ("normal --kernel=k", "convert --kernel=k --sc=99 --clock=1/5"):
-        spaces(report, f"{words.split()[0]} of the most variables", words, report.run(words).out, FIRST, twice)
+        spaces(report, f"{words.split()[0]} of the most variables", words, in_steps(FIRST, lambda size: size))
