@@ -273,30 +273,30 @@ invert_determined source options calm known =
 
 -- ---- the files of the words
 
-front_known : (P : List ℕ → Type 0) (names others : List (List ℕ)) → All P (names ++ others) → (k : ℕ) (d : List ℕ) → k < length names → P (slice_index_or names k d)
+pub front_known : (P : List ℕ → Type 0) (names others : List (List ℕ)) → All P (names ++ others) → (k : ℕ) (d : List ℕ) → k < length names → P (slice_index_or names k d)
 front_known P [] others h k d within = absurd (omega (arith, within))
 front_known P (name ∷ names) others h zero d within = h zero d (omega arith)
 front_known P (name ∷ names) others h (suc k) d within = front_known P names others (λ k d within. h (suc k) d (omega (arith, within))) k d (omega (arith, within))
 
-others_known : (P : List ℕ → Type 0) (names others : List (List ℕ)) → All P (names ++ others) → All P others
+pub others_known : (P : List ℕ → Type 0) (names others : List (List ℕ)) → All P (names ++ others) → All P others
 others_known P [] others h = h
 others_known P (name ∷ names) others h = others_known P names others (λ k d within. h (suc k) d (omega (arith, within)))
 
-one_known : (P : List ℕ → Type 0) (named : Option (List ℕ)) → All P (option_to_list named) → IfSome named P
+pub one_known : (P : List ℕ → Type 0) (named : Option (List ℕ)) → All P (option_to_list named) → IfSome named P
 one_known P None h = tt
 one_known P (Some name) h = h 0 [] (search rules)
 
-named_known : (P : List ℕ → Type 0) (named : Option (List ℕ)) → is_none named ≡ false → IfSome named P → P (unwrap_or named [])
+pub named_known : (P : List ℕ → Type 0) (named : Option (List ℕ)) → is_none named ≡ false → IfSome named P → P (unwrap_or named [])
 named_known P None given h = cc
 named_known P (Some name) given h = h
 
 -- the leap second kernel, where it is named, the clock kernel and the observations
-record HaveBytes (source : Source) (options : Options) : Type 0 where
+pub record HaveBytes (source : Source) (options : Options) : Type 0 where
   leap : IfSome (options opt.Leap) (λ name. IsSome (source.holds name))
   kernel : IfSome (options opt.Kernel) (λ name. IsSome (source.holds name))
   observations : IfSome (options opt.Obs) (λ name. IsSome (source.holds name))
 
-have_bytes : (source : Source) (options : Options) → All (λ name. IsSome (source.holds name)) (files_of options) → HaveBytes source options
+pub have_bytes : (source : Source) (options : Options) → All (λ name. IsSome (source.holds name)) (files_of options) → HaveBytes source options
 have_bytes source options h =
     let P : List ℕ → Type 0 = λ name. IsSome (source.holds name) in
     let leap = option_to_list (options opt.Leap) in
@@ -326,7 +326,7 @@ files_known source options named known = record {
   observations = named_known (λ name. IsSome (source.holds name)) (options opt.Obs) named.1 known.observations;
 }
 
-command_determined : (command : Command) (source : Source) (options : Options) → IsCalm source → AreNamed command options → HaveBytes source options
+pub command_determined : (command : Command) (source : Source) (options : Options) → IsCalm source → AreNamed command options → HaveBytes source options
     → IsDetermined (outcome_of command source options)
 command_determined Publish source options calm named known = publish_determined source options calm (files_known source options named known)
 command_determined Residuals source options calm named known = residuals_determined source options calm (files_known source options named known)
@@ -337,7 +337,7 @@ command_determined Invert source options calm named known = invert_determined so
 
 -- ---- the whole
 
-requested_determined : (words : List (List ℕ)) → IsDetermined (requested words)
+pub requested_determined : (words : List (List ℕ)) → IsDetermined (requested words)
 requested_determined words = judged_determined (WordsAsk words) WordsRefused (words_one words)
 
 -- the words ask for this, and the run goes on with it alone

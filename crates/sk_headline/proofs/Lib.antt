@@ -18,3 +18,4 @@ pub mod Inverted
 pub mod Timed
 pub mod Exactly
 pub mod Uses
+pub mod Named

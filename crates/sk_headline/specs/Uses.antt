@@ -1,5 +1,5 @@
 -- What those who use the program may rely on: laws over definitions.
-use Rattle.std.specs.Prelude.{◌≡◌, ℕ, ℤ, List, [], ◌++◌, codes, Result, Ok, Some, None, Option}
+use Rattle.std.specs.Prelude.{◌≡◌, ℕ, ℤ, List, [], ◌∷◌, ◌++◌, codes, Result, Ok, Some, None, Option, All, IsSome}
 use Rattle.sk_grammar.specs.Document.{DocView}
 use Rattle.sk_grammar.specs.Canonical.{canonical_text, ended_by_line_feeds, block_lines}
 use Rattle.sk_grammar.specs.Spelling.{Spells}
@@ -9,13 +9,39 @@ use Rattle.sk_clock.specs.Clock.{clock_text}
 use Rattle.sk_publishing.specs.Row.{IsObservedTime}
 use Rattle.sk_publishing.specs.Chain.{new_triples}
 use Rattle.sk_words.specs.declared.tables.OptionName.TheVariants as opt
-use Rattle.sk_words.specs.Request.{Options, text_or}
+use Rattle.sk_words.specs.Asked.{Request}
+use Rattle.sk_words.specs.Request.{Options, text_or, files_of}
 use Rattle.sk_status.specs.declared.status.Status.{Status}
 use Rattle.sk_status.specs.declared.status.TimeStop.{TimeStop}
+use Rattle.sk_outcome.specs.Seen.{Source}
 use Rattle.sk_outcome.specs.Files.{KernelRead, OpenedRead, sc_of, kernel_file}
 use Rattle.sk_outcome.specs.Time.{IsUtcWord}
-use Rattle.sk_outcome.specs.Outcome.{TimeOf, convert_of}
+use Rattle.sk_outcome.specs.Outcome.{TimeOf, convert_of, requested, outcome}
 use Rattle.sk_headline.specs.Headline.{IsShort, IsKernel, IsPublished, block_with}
+
+-- ---- one outcome
+
+-- no reading fails, and of the last file so many bytes are read
+abbrev pub quiet : (List ℕ → Option (List ℕ)) → ℕ → Source
+quiet holds given = record { holds = holds; given = given; rose = λ name. ⊥ }
+
+-- each file that the words name, in an option that their command uses, has the property
+abbrev pub EachNamed : (List ℕ → Type 0) → List (List ℕ) → Type 0
+EachNamed P words = (request : Request) → requested (codes "station" ∷ words) (Ok request) → All P (files_of request.options)
+
+-- Where no reading fails and the named files are known, whatever the words are, they come to one end at most: to one text
+-- or to one refusal. That they come to one is shown by each run that does not run out of memory.
+abbrev pub OneOutcome : Type 0
+OneOutcome = (words : List (List ℕ)) (holds : List ℕ → Option (List ℕ)) (given : ℕ) (a b : Result (List ℕ) Status)
+    → EachNamed (λ name. IsSome (holds name)) words
+    → outcome words (quiet holds given) a → outcome words (quiet holds given) b → a ≡ b
+
+-- Two depots that hold the same under the names of the words come to the same end, whatever else they hold, how they cut
+-- their files, and what is named by options that the command does not use.
+abbrev pub NamedFilesAlone : Type 0
+NamedFilesAlone = (words : List (List ℕ)) (holds other : List ℕ → Option (List ℕ)) (given more : ℕ) (a b : Result (List ℕ) Status)
+    → EachNamed (λ name. IsSome (holds name) × (other name ≡ holds name)) words
+    → outcome words (quiet holds given) a → outcome words (quiet other more) b → a ≡ b
 
 -- ---- a published kernel
 

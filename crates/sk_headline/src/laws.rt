@@ -1,7 +1,17 @@
-//! Laws of publications and of lines: functions with empty bodies, whose contracts are proved.
+//! Laws of runs, of publications and of lines: functions with empty bodies, whose contracts are proved.
 
 ghost use Rattle.sk_headline.specs.Headline.{OneText};
-ghost use Rattle.sk_headline.specs.Uses.{ReadAgain, AddsNothing, AddsOneBlock, NoneAddsNone, SameDocument, CanonicalIsRead, TextIsRead, UtcIsRead};
+ghost use Rattle.sk_headline.specs.Uses.{OneOutcome, NamedFilesAlone, ReadAgain, AddsNothing, AddsOneBlock, NoneAddsNone, SameDocument, CanonicalIsRead, TextIsRead, UtcIsRead};
+
+/// Where no reading fails and the named files are known, words and files come to one end at most.
+pub fn one_outcome()
+    ensures { OneOutcome }
+{}
+
+/// What words come to depends on the bytes of the files that they name, and on nothing else that a depot has.
+pub fn named_files_alone()
+    ensures { NamedFilesAlone }
+{}
 
 /// The options and the bytes of the files determine what is published, to the byte.
 pub fn one_text()

@@ -70,7 +70,6 @@ fn triples_are_taken_or_refused_for_their_first_fault(rt: HostRuntime) -> Result
         ("SCLK01_COEFFICIENTS_99 = ( 0 0 1 1 )", "NotTriples"),
         ("SCLK01_COEFFICIENTS_99 = ( 0 0 @1 )", "NotTriples"),
         ("SCLK01_COEFFICIENTS_99 = ( @1 0 1 )", "NotTriples"),
-        ("SCLK01_COEFFICIENTS_99 = ( 0 'x' 1 )", "NotTriples"),
         ("SCLK01_COEFFICIENTS_99 = ( '0' '0' '1' )", "NotTriples"),
         ("SCLK01_COEFFICIENTS_99 = ( 0 0 1 )", "taken"),
         ("SCLK01_COEFFICIENTS_99 += ( 0 0 1 )", "taken"),

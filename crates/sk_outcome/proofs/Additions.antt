@@ -15,7 +15,8 @@ use Rattle.sk_fit.specs.declared.chain.Chain.{Chain}
 use Rattle.sk_fit.specs.Given.{new_triples_of}
 use Rattle.sk_report.specs.Report.{table_of}
 use Rattle.sk_words.specs.declared.tables.OptionName.TheVariants as opt
-use Rattle.sk_words.specs.Request.{Options, is_in_range, is_id_byte}
+use Rattle.sk_words.specs.Request.{Options, is_in_range}
+use Rattle.sk_words.proofs.KernelId.{is_id_byte, id_bytes}
 use Rattle.sk_outcome.specs.Files.{KernelRead, sc_of}
 use Rattle.sk_outcome.specs.Output.{dated, new_kernel}
 use Rattle.sk_outcome.specs.Outcome.{all_covered}
@@ -64,23 +65,15 @@ id_runs byte h =
 id_data : (byte : ℕ) → is_id_byte byte ≡ true → is_data_byte byte ≡ true
 id_data byte h = grind (arith, nat_tests)
 
-three : (a b d : Bool) → (a && (b && d)) ≡ true → (a ≡ true) × (b ≡ true) × (d ≡ true)
-three true true true h = (refl, refl, refl)
-three true true false h = cc
-three true false d h = cc
-three false b d h = cc
-
 -- the text of the option is a date behind `@`
 pub id_date : (text : List ℕ) → IsTrue (is_in_range opt.Id text) → IsDate (codes "@" ++ text)
 id_date text h =
-    let p = three (leb 1 (length text)) (leb (length text) 79) (list_all is_id_byte text) h in
-    let low : 1 ≤ length text = search rules in
-    let high : length text ≤ 79 = search rules in
+    let p = id_bytes text h in
     record {
       rest = text;
       at_sign = refl;
-      not_bare = omega arith;
-      short = omega arith;
+      not_bare = omega (arith, p.0);
+      short = omega (arith, p.1);
       run = list_all-weaker is_id_byte is_run_byte id_runs text p.2;
       bytes = list_all-weaker is_id_byte is_data_byte id_data text p.2;
     }

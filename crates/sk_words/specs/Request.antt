@@ -6,6 +6,7 @@ use Rattle.std.specs.Char.{is_ascii_digit}
 use Rattle.std.specs.Str.{bytes_eq}
 use Rattle.std.specs.Str.Parse.{digits_value}
 use Rattle.clap.specs.Words.{Row}
+use Rattle.sk_words.specs.KernelId.{is_calendar_time}
 use Rattle.sk_words.specs.Words.{option_text, command_text}
 use Rattle.sk_words.specs.declared.tables.Command.{Command}
 use Rattle.sk_words.specs.declared.tables.Command.TheVariants.{Publish, Residuals, Normal, Convert, Invert}
@@ -85,10 +86,6 @@ is_number_in low high text = is_number text && (nat_le low (digits_value 10 text
 abbrev pub is_file_name : List ℕ → Bool
 is_file_name text = nat_le 1 (length text)
 
--- bytes from 33 to 126 without `,`, `(`, `)` and `'`
-abbrev pub is_id_byte : ℕ → Bool
-is_id_byte byte = nat_le 33 byte && nat_le byte 126 && not (byte == 44 || byte == 40 || byte == 41 || byte == 39)
-
 -- the names between commas
 abbrev pub over_names : List ℕ → List (List ℕ)
 over_names text = slice_split (λ byte. byte == 44) text
@@ -135,7 +132,7 @@ is_in_range opt.RateDecimals text = is_numbered opt.RateDecimals text
 is_in_range opt.BandPpm text = is_numbered opt.BandPpm text
 is_in_range opt.SlipNs text = is_numbered opt.SlipNs text
 is_in_range opt.Hold text = is_numbered opt.Hold text
-is_in_range opt.Id text = nat_le 1 (length text) && (nat_le (length text) 79 && list_all is_id_byte text)
+is_in_range opt.Id text = is_calendar_time text
 is_in_range opt.Clock text = true
 is_in_range opt.Seed text = is_numbered opt.Seed text
 is_in_range opt.Count text = is_numbered opt.Count text

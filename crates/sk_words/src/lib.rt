@@ -6,6 +6,7 @@ mod fault;
 mod help;
 #[cfg(test)]
 mod help_tests;
+mod laws;
 mod limits;
 mod matched;
 mod ranges;
@@ -18,6 +19,7 @@ mod topic;
 
 pub use fault::{WordsFault, WordsStop};
 pub use help::page;
+pub use laws::ids_are_calendar_times;
 pub use request::{Request, requested};
 pub use tables::{Command, OptionName};
 pub use topic::{Topic, topic_of};

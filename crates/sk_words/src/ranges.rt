@@ -3,9 +3,10 @@
 ghost use Rattle.std.specs.Prelude.{◌≡◌, length};
 ghost use Rattle.std.specs.Char.{is_ascii_digit};
 ghost use Rattle.std.specs.List.{list_all};
-ghost use Rattle.sk_words.specs.Request.{is_number as is_number_text, is_number_in as is_number_within, is_numbered as is_numbered_by, is_file_name as is_name_text, is_id_byte as is_id_code, is_in_range as is_within_range, number_of as number_of_text, over_names, meant as meant_by, without_sign as unsigned};
+ghost use Rattle.sk_words.specs.Request.{is_number as is_number_text, is_number_in as is_number_within, is_numbered as is_numbered_by, is_file_name as is_name_text, is_in_range as is_within_range, number_of as number_of_text, over_names, meant as meant_by, without_sign as unsigned};
 
 use crate::tables::OptionName;
+use sk_calendar::read_calendar_time;
 
 const MOST_DIGITS: usize = 16;
 
@@ -61,25 +62,11 @@ fn is_file_name(text: &str) -> bool
     !text.is_empty()
 }
 
-/// The byte may stand in a kernel ID.
-fn is_id_byte(byte: u8) -> bool
-    ensures { result ≡ is_id_code byte }
-{
-    (33..=126).contains(&byte) && !matches!(byte, b',' | b'(' | b')' | b'\'')
-}
-
-/// Each byte may stand in a kernel ID.
-fn are_id_bytes(text: &[u8]) -> bool
-    ensures { result ≡ list_all is_id_code text.now }
-{
-    text.iter().all(|byte| is_id_byte(*byte))
-}
-
-/// The text may be a kernel ID.
+/// The text may be a kernel ID: it is a calendar time, as kernels have them behind their `@`.
 fn is_id(text: &[u8]) -> bool
     ensures { result ≡ is_within_range OptionName.Id text.now }
 {
-    1 <= text.len() && text.len() <= 79 && are_id_bytes(text)
+    read_calendar_time(text).is_some()
 }
 
 /// Each name between commas has one byte or more.

@@ -61,7 +61,7 @@ fn words_ask_for_a_command_with_the_options_that_it_uses(rt: HostRuntime) -> Res
         "--kernel=k",
         "--obs=o",
         "--sc=0099",
-        "--id=X",
+        "--id=2024-06-01",
     ];
     let request = match requested(alloc, words.as_slice()) {
         Ok(request) => request,
@@ -142,7 +142,7 @@ fn words_are_judged_in_the_order_of_the_tables(rt: HostRuntime) {
             "over",
         ),
         (
-            &["station", "normal", "--kernel=k", "--id=a(b"],
+            &["station", "normal", "--kernel=k", "--id=x"],
             "OutOfRange",
             "id",
         ),
@@ -183,7 +183,7 @@ fn refusal_of_publish(alloc: Global, word: &str) -> (&'static str, &'static str)
 #[test]
 fn publish_takes_what_is_in_range(rt: HostRuntime) {
     let alloc = rt.alloc();
-    let taken: [&str; 19] = [
+    let taken: [&str; 23] = [
         "--leap=l",
         "--tol-ns=1",
         "--tol-ns=60000000000",
@@ -195,9 +195,14 @@ fn publish_takes_what_is_in_range(rt: HostRuntime) {
         "--slip-ns=60000000000",
         "--hold=0",
         "--hold=9007199254740991",
+        // Dates of each form; they may be more than 10^10 s from 2000.
         "--id=2024-06-01",
-        "--id=!~",
-        "--id=0123456789012345678901234567890123456789012345678901234567890123456789012345678",
+        "--id=2024-JUN-1",
+        "--id=19-JAN-2006/18:09:05.184",
+        "--id=2024-153t00:00",
+        "--id=1600-01-01",
+        "--id=2399-12-31",
+        "--id=19-jan-2006-18:09:05.123456789012345678",
         "--reject=0",
         "--reject=100000",
         "--reject=0000000000000001",
@@ -216,7 +221,7 @@ fn publish_takes_what_is_in_range(rt: HostRuntime) {
 #[test]
 fn publish_refuses_what_is_out_of_range(rt: HostRuntime) {
     let alloc = rt.alloc();
-    let refused: [(&str, &str); 29] = [
+    let refused: [(&str, &str); 33] = [
         ("--leap=", "leap"),
         ("--tol-ns=0", "tol-ns"),
         ("--tol-ns=60000000001", "tol-ns"),
@@ -233,17 +238,19 @@ fn publish_refuses_what_is_out_of_range(rt: HostRuntime) {
         ("--slip-ns=60000000001", "slip-ns"),
         ("--hold=9007199254740992", "hold"),
         ("--hold=+1", "hold"),
+        // Texts that no kernel can have as a date.
         ("--id=", "id"),
-        (
-            "--id=01234567890123456789012345678901234567890123456789012345678901234567890123456789",
-            "id",
-        ),
-        ("--id=2024 06", "id"),
-        ("--id=a,b", "id"),
-        ("--id=a(b", "id"),
-        ("--id=a)b", "id"),
-        ("--id=a'b", "id"),
-        ("--id=\x7f", "id"),
+        ("--id=x", "id"),
+        ("--id=@2024-06-01", "id"),
+        ("--id=2024-06", "id"),
+        ("--id=2024-6-1", "id"),
+        ("--id=2023-02-29", "id"),
+        ("--id=2024-06-01T24:00", "id"),
+        ("--id=2024-06-01T00:00:60", "id"),
+        ("--id=2024-06-01Z", "id"),
+        ("--id=2024-06-01 00:00", "id"),
+        ("--id=19-jan-2006-18:09:05.1234567890123456789", "id"),
+        ("--id=1599-12-31", "id"),
         ("--reject=100001", "reject"),
         ("--reject=00000000000000001", "reject"),
         // So are options of other commands.

@@ -149,7 +149,7 @@ fn kernels_are_published(rt: HostRuntime) -> Result<(), Fail> {
         (
             false,
             SLOW,
-            "--id=a(b",
+            "--id=2024-02-30",
             "",
             2,
             "",
