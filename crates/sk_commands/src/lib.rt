@@ -2,6 +2,7 @@
 #![tactic(auto)]
 
 pub mod convert;
+pub mod differences;
 mod inputs;
 pub mod invert;
 mod kernel;
@@ -9,6 +10,7 @@ mod meaning;
 pub mod normal;
 pub mod publish;
 pub mod residuals;
+pub mod sample;
 mod ticks;
 mod time_word;
 

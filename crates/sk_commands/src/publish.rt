@@ -53,7 +53,7 @@ fn settings_of(request: &Request) -> Settings
 }
 
 /// The publication of the observations.
-fn chain_of(
+pub fn chain_of(
     alloc: Global,
     request: &Request,
     kernel: &Kernel,
@@ -102,7 +102,7 @@ fn new_table(
 }
 
 /// The triples of the new kernel behind those of the old one.
-fn behind<'a>(triples: &'a Triples, old: &Triples) -> &'a [Triple]
+pub fn behind<'a>(triples: &'a Triples, old: &Triples) -> &'a [Triple]
     requires { (more : Sequence TripleView) × (triples.now.triples ≡ old.now.triples ++ more) }
     ensures added { triples.now.triples ≡ old.now.triples ++ result.now }
     ensures numbers { All HasNumbers result.now }

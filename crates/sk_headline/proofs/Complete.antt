@@ -24,8 +24,9 @@ use Rattle.sk_fit.specs.Causes.{Gives, input}
 use Rattle.sk_fit.specs.Given.{chain_view, new_triples_of}
 use Rattle.sk_fit.proofs.OneAnswer.{one_refusal, one_gives, gives_unrefused}
 use Rattle.sk_report.specs.Report.{table_checks}
+use Rattle.sk_sample.specs.Sample.{kernel_text, spacecraft, observations_text}
 use Rattle.sk_words.specs.declared.tables.Command.{Command}
-use Rattle.sk_words.specs.declared.tables.Command.TheVariants.{Publish, Residuals, Normal, Convert, Invert}
+use Rattle.sk_words.specs.declared.tables.Command.TheVariants.{Publish, Residuals, Normal, Convert, Sample, Invert}
 use Rattle.sk_words.specs.declared.tables.OptionName.TheVariants as opt
 use Rattle.sk_words.specs.Request.{Options, text_or, files_of, over_names}
 use Rattle.sk_words.specs.Asked.{Request, WordsAsk}
@@ -48,8 +49,9 @@ use Rattle.sk_outcome.specs.Seen.{Source}
 use Rattle.sk_outcome.specs.Files.{KernelRead, reads, judged, document, refused_by, too_long, file_limit, sc_of, leap_named, leap_file, leap_meaning, leap_pool, leap_table, kernel_document, kernel_meaning, kernel_file, kernel_pool, kernel_clock, kernel_triples, observation_file, observed, OpenedRead, InputsRead, opened_read, inputs_read}
 use Rattle.sk_outcome.specs.Publishing.{after_chain, after_rows}
 use Rattle.sk_outcome.specs.Output.{settings_of, dated, plain_table, new_kernel, tick_fields, time_by, line_of}
+use Rattle.sk_outcome.specs.Sample.{made_kernel, made_observations, made_inputs, sample_line, seed_of, count_of}
 use Rattle.sk_outcome.specs.Time.{IsUtcWord}
-use Rattle.sk_outcome.specs.Outcome.{requested, commanded, told_or, outcome, outcome_of, publish, publish_of, residuals, residuals_of, normal, normal_of, convert, convert_of, converted, invert, invert_of, said, ticked, told, covered, clock_tick, TickOf, tabled, all_covered, status_of_report}
+use Rattle.sk_outcome.specs.Outcome.{requested, commanded, told_or, outcome, outcome_of, publish, publish_of, chain_of, residuals, residuals_of, normal, normal_of, convert, convert_of, converted, sample, sample_of, sampled, invert, invert_of, said, ticked, told, covered, clock_tick, TickOf, tabled, all_covered, status_of_report}
 use Rattle.sk_outcome.specs.Ending.{Ends, HasEnded}
 use Rattle.sk_headline.proofs.Determined.{then_determined, then_determined_of, judged_determined, gives_determined, judges_one}
 use Rattle.sk_headline.proofs.OneAnswer.{doc_one, pool_one, leap_one, clock_one, triples_one, range_single, table_single, words_one}
@@ -204,17 +206,29 @@ chains_alike options kernel rows c d p q a b h k =
     subst (λ (shown : ChainView). ended_with options kernel rows (new_triples_of d) shown a) view by_new in
     ended_determined options kernel rows (new_triples_of d) (chain_view (sights rows) d) a b by_view k
 
-rows_determined : (options : Options) (kernel : KernelRead) (rows : List RowView) → IsDetermined (after_rows options kernel rows)
-rows_determined options kernel rows (Ok x) (Ok y) p q = chains_alike options kernel rows p.0 q.0 p.1 q.1 (Ok x) (Ok y) p.2 q.2
-rows_determined options kernel rows (Ok x) (Err s) p (inl q) = absurd (gives_unrefused (input_of options kernel rows) rows p.0 q.0 p.1 q.1)
-rows_determined options kernel rows (Ok x) (Err s) p (inr q) = chains_alike options kernel rows p.0 q.0 p.1 q.1 (Ok x) (Err s) p.2 q.2
-rows_determined options kernel rows (Err s) (Ok y) (inl p) q = absurd (gives_unrefused (input_of options kernel rows) rows q.0 p.0 q.1 p.1)
-rows_determined options kernel rows (Err s) (Ok y) (inr p) q = chains_alike options kernel rows p.0 q.0 p.1 q.1 (Err s) (Ok y) p.2 q.2
-rows_determined options kernel rows (Err s) (Err u) (inl p) (inl q) =
+-- what follows the chain comes to one end, where it does for any two chains of the same observations
+abbrev AreAlike : Options → KernelRead → List RowView → (Chain → Stage (List ℕ)) → Type 0
+AreAlike options kernel rows next = (c d : Chain) → Gives (input_of options kernel rows) c → Gives (input_of options kernel rows) d
+    → (a b : Result (List ℕ) Status) → next c a → next d b → a ≡ b
+
+abbrev chained : Options → KernelRead → List RowView → (Chain → Stage (List ℕ)) → Stage (List ℕ)
+chained options kernel rows next = chain_of options kernel rows >>= next
+
+chained_determined : (options : Options) (kernel : KernelRead) (rows : List RowView) (next : Chain → Stage (List ℕ)) → AreAlike options kernel rows next
+    → IsDetermined (chained options kernel rows next)
+chained_determined options kernel rows next alike (Ok x) (Ok y) p q = alike p.0 q.0 p.1 q.1 (Ok x) (Ok y) p.2 q.2
+chained_determined options kernel rows next alike (Ok x) (Err s) p (inl q) = absurd (gives_unrefused (input_of options kernel rows) rows p.0 q.0 p.1 q.1)
+chained_determined options kernel rows next alike (Ok x) (Err s) p (inr q) = alike p.0 q.0 p.1 q.1 (Ok x) (Err s) p.2 q.2
+chained_determined options kernel rows next alike (Err s) (Ok y) (inl p) q = absurd (gives_unrefused (input_of options kernel rows) rows q.0 p.0 q.1 p.1)
+chained_determined options kernel rows next alike (Err s) (Ok y) (inr p) q = alike p.0 q.0 p.1 q.1 (Err s) (Ok y) p.2 q.2
+chained_determined options kernel rows next alike (Err s) (Err u) (inl p) (inl q) =
     ap Err (p.2 ∙ ap NotPublished (one_refusal (input_of options kernel rows) rows p.0 q.0 p.1 q.1) ∙ sym q.2)
-rows_determined options kernel rows (Err s) (Err u) (inl p) (inr q) = absurd (gives_unrefused (input_of options kernel rows) rows q.0 p.0 q.1 p.1)
-rows_determined options kernel rows (Err s) (Err u) (inr p) (inl q) = absurd (gives_unrefused (input_of options kernel rows) rows p.0 q.0 p.1 q.1)
-rows_determined options kernel rows (Err s) (Err u) (inr p) (inr q) = chains_alike options kernel rows p.0 q.0 p.1 q.1 (Err s) (Err u) p.2 q.2
+chained_determined options kernel rows next alike (Err s) (Err u) (inl p) (inr q) = absurd (gives_unrefused (input_of options kernel rows) rows q.0 p.0 q.1 p.1)
+chained_determined options kernel rows next alike (Err s) (Err u) (inr p) (inl q) = absurd (gives_unrefused (input_of options kernel rows) rows p.0 q.0 p.1 q.1)
+chained_determined options kernel rows next alike (Err s) (Err u) (inr p) (inr q) = alike p.0 q.0 p.1 q.1 (Err s) (Err u) p.2 q.2
+
+rows_determined : (options : Options) (kernel : KernelRead) (rows : List RowView) → IsDetermined (after_rows options kernel rows)
+rows_determined options kernel rows = chained_determined options kernel rows (after_chain options kernel rows) (chains_alike options kernel rows)
 
 publish_determined : (source : Source) (options : Options) → IsCalm source → AreKnown source options → IsDetermined (publish source options)
 publish_determined source options calm known =
@@ -259,6 +273,36 @@ convert_determined : (source : Source) (options : Options) → IsCalm source →
 convert_determined source options calm known =
     then_determined_of (opened_read source options) (convert_of options) (opened_determined source options calm known)
     (λ opened is. convert_of_determined options opened (opened_table source options opened is))
+
+made_determined : (options : Options) → IsDetermined (made_inputs options)
+made_determined options =
+    let bytes : List ℕ = observations_text (seed_of options) (count_of options) in
+    then_determined made_kernel (λ kernel. made_observations options kernel >>= (λ rows. gives {A = InputsRead} (record { kernel = kernel; observations = rows })))
+    (then_determined (judged (files.DocOf kernel_text) (refused_by Kernel)) (kernel_meaning spacecraft)
+    (judged_determined (files.DocOf kernel_text) (refused_by Kernel) (doc_one kernel_text)) (meaning_determined spacecraft))
+    (λ kernel. then_determined (made_observations options kernel) (λ rows. gives {A = InputsRead} (record { kernel = kernel; observations = rows }))
+    (judged_determined (files.ObservationsOf bytes kernel.clock []) (λ f. ObservationRefused (obs_stop.Record f)) (observations_one bytes kernel.clock []))
+    (λ rows. gives_determined {A = InputsRead} (record { kernel = kernel; observations = rows })))
+
+-- the line of these new triples
+abbrev sampled_with : Options → KernelRead → List RowView → List TripleView → Stage (List ℕ)
+sampled_with options kernel rows new = all_covered (with_new kernel new) rows >>= (λ covers. gives (sample_line options kernel rows new))
+
+sampled_determined : (options : Options) (kernel : KernelRead) (rows : List RowView) (new : List TripleView) → IsDetermined (sampled_with options kernel rows new)
+sampled_determined options kernel rows new =
+    then_determined (all_covered (with_new kernel new) rows) (λ covers. gives (sample_line options kernel rows new))
+    (all_covered_determined (with_new kernel new) rows)
+    (λ covers. gives_determined (sample_line options kernel rows new))
+
+samples_alike : (options : Options) (kernel : KernelRead) (rows : List RowView) → AreAlike options kernel rows (sampled options kernel rows)
+samples_alike options kernel rows c d p q a b h k =
+    let new : new_triples_of c ≡ new_triples_of d = one_addition (input_of options kernel rows) c d p q in
+    sampled_determined options kernel rows (new_triples_of d) a b (subst (λ (added : List TripleView). sampled_with options kernel rows added a) new h) k
+
+sample_determined : (source : Source) (options : Options) → IsDetermined (sample source options)
+sample_determined source options =
+    then_determined (made_inputs options) (sample_of options) (made_determined options)
+    (λ inputs. chained_determined options inputs.kernel inputs.observations (sampled options inputs.kernel inputs.observations) (samples_alike options inputs.kernel inputs.observations))
 
 told_determined : (kernel : KernelRead) (tick : ℕ) → IsDetermined (told kernel tick)
 told_determined kernel tick =
@@ -333,6 +377,7 @@ command_determined Residuals source options calm named known = residuals_determi
 command_determined Normal source options calm named known =
     normal_determined source options calm (named_known (λ name. IsSome (source.holds name)) (options opt.Kernel) named known.kernel)
 command_determined Convert source options calm named known = convert_determined source options calm (files_open source options named known)
+command_determined Sample source options calm named known = sample_determined source options
 command_determined Invert source options calm named known = invert_determined source options calm (files_open source options named known)
 
 -- ---- the whole

@@ -28,7 +28,7 @@ use Rattle.sk_audit.specs.declared.verdict.Verdict.TheVariants.{Yes, No}
 use Rattle.sk_excerpt.specs.Excerpt as ex
 use Rattle.sk_least.specs.Answer as cover
 use Rattle.sk_words.specs.declared.tables.Command.{Command}
-use Rattle.sk_words.specs.declared.tables.Command.TheVariants.{Publish, Residuals, Normal, Convert, Invert}
+use Rattle.sk_words.specs.declared.tables.Command.TheVariants.{Publish, Residuals, Normal, Convert, Sample, Invert}
 use Rattle.sk_status.specs.declared.status.Status.{Status}
 use Rattle.sk_status.specs.declared.status.Status.TheVariants.{WordsRefused, ObservationRefused, NotPublished, TimeRefused, AuditNo, ExcerptRefused, NoMemory}
 use Rattle.sk_status.specs.declared.status.DocumentKind.TheVariants.{New, Over}
@@ -46,7 +46,7 @@ use Rattle.sk_outcome.specs.Seen.{Source}
 use Rattle.sk_outcome.specs.Files.{judged, document, kernel_document, kernel_meaning, KernelRead, OpenedRead, InputsRead, opened_read, inputs_read, sc_of}
 use Rattle.sk_outcome.specs.Output.{settings_of, plain_table, published_doc, tick_fields, time_by, line_of, least_text, new_kernel}
 use Rattle.sk_outcome.specs.Time.{time_stops, IsUtcWord}
-use Rattle.sk_outcome.specs.Sample.{sample_triples, sample_clock, sample_rows, sample_fields}
+use Rattle.sk_outcome.specs.Sample.{made_inputs, sample_line}
 
 -- ---- parts of several commands
 
@@ -136,14 +136,23 @@ convert source options = do
   opened ← opened_read source options
   convert_of options opened
 
--- the publication of the sample's observations
-abbrev pub sample_of : ℕ → ℕ → Options → Stage (List ℕ)
-sample_of seed count options = do
-  chain ← judged (Fits (input sample_triples sample_clock (sample_rows seed count) (settings_of options)) (sample_rows seed count)) NotPublished
-  gives (line_of (sample_fields seed count (new_triples_of chain) (sample_triples.triples ++ new_triples_of chain)))
+-- the line of a chain, where each observation has a time by the new kernel
+abbrev pub sampled : Options → KernelRead → List RowView → Chain → Stage (List ℕ)
+sampled options kernel rows chain = do
+  covers ← all_covered (new_kernel kernel chain) rows
+  gives (sample_line options kernel rows (new_triples_of chain))
 
+-- the publication of the sample's observations, by the stages of `publish`
+abbrev pub sample_of : Options → InputsRead → Stage (List ℕ)
+sample_of options inputs = do
+  chain ← chain_of options inputs.kernel inputs.observations
+  sampled options inputs.kernel inputs.observations chain
+
+-- no file is read
 abbrev pub sample : Source → Options → Stage (List ℕ)
-sample source options = sample_of (number_or 0 opt.Seed options) (number_or 0 opt.Count options) options
+sample source options = do
+  inputs ← made_inputs options
+  sample_of options inputs
 
 -- the tick of a time, in time units
 abbrev pub status_of_time : InverseFault → Status
@@ -233,6 +242,7 @@ outcome_of Publish = publish
 outcome_of Residuals = residuals
 outcome_of Normal = normal
 outcome_of Convert = convert
+outcome_of Sample = sample
 outcome_of Invert = invert
 
 -- the words

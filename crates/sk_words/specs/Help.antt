@@ -4,7 +4,7 @@ use Rattle.std.specs.List.{flat_map, list_any}
 use Rattle.std.specs.Str.{bytes_eq}
 use Rattle.sk_words.specs.declared.limits.Numbers.{Numbers}
 use Rattle.sk_words.specs.declared.tables.Command.{Command}
-use Rattle.sk_words.specs.declared.tables.Command.TheVariants.{Publish, Residuals, Normal, Convert, Invert}
+use Rattle.sk_words.specs.declared.tables.Command.TheVariants.{Publish, Residuals, Normal, Convert, Sample, Invert}
 use Rattle.sk_words.specs.declared.tables.OptionName.{OptionName}
 use Rattle.sk_words.specs.declared.tables.OptionName.TheVariants as opt
 use Rattle.sk_words.specs.declared.topic.Topic.{Topic}
@@ -108,6 +108,7 @@ writes Publish = codes "new triples, with the residual table as comments"
 writes Residuals = codes "how far each observation lies from the kernel"
 writes Normal = codes "the kernel in canonical layout"
 writes Convert = codes "the tick, TDT and UTC of one clock reading"
+writes Sample = codes "what publishing observations made from a seed comes to"
 writes Invert = codes "the last clock reading that is not after one time"
 
 abbrev pub remarks : Command → List (List ℕ)
@@ -115,6 +116,7 @@ remarks Publish = codes "Writes the kernel with one block more. Write it to a ne
 remarks Residuals = codes "Writes a line for each observation: id, clock reading, observed TDT, TDT by the" ∷ codes "kernel, difference in ps, triple and kind. TDT is in seconds past J2000." ∷ []
 remarks Normal = codes "Only the grammar of the file is checked." ∷ []
 remarks Convert = codes "Writes one line: clock reading, encoded tick, TDT in seconds past J2000, UTC." ∷ codes "The UTC is - where --leap is not given." ∷ []
+remarks Sample = codes "Writes one line: sample, seed, count, new triples, the greatest difference in ps" ∷ codes "and the ticks of the last triple. It reads no file: docs/SAMPLE.md tells what is" ∷ codes "made. The slip has its default; nothing is held or dropped." ∷ []
 remarks Invert = codes "Writes one line: clock reading, encoded tick and its TDT in seconds past J2000." ∷ []
 
 -- the options that a command needs

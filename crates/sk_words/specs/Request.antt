@@ -9,7 +9,7 @@ use Rattle.clap.specs.Words.{Row}
 use Rattle.sk_words.specs.KernelId.{is_calendar_time}
 use Rattle.sk_words.specs.Words.{option_text, command_text}
 use Rattle.sk_words.specs.declared.tables.Command.{Command}
-use Rattle.sk_words.specs.declared.tables.Command.TheVariants.{Publish, Residuals, Normal, Convert, Invert}
+use Rattle.sk_words.specs.declared.tables.Command.TheVariants.{Publish, Residuals, Normal, Convert, Sample, Invert}
 use Rattle.sk_words.specs.declared.tables.OptionName.{OptionName}
 use Rattle.sk_words.specs.declared.tables.OptionName.TheVariants as opt
 use Rattle.sk_words.specs.declared.limits.Numbers.{Numbers}
@@ -49,10 +49,11 @@ word_of Publish = codes "publish"
 word_of Residuals = codes "residuals"
 word_of Normal = codes "normal"
 word_of Convert = codes "convert"
+word_of Sample = codes "sample"
 word_of Invert = codes "invert"
 
 abbrev pub all_commands : List Command
-all_commands = Publish ∷ Residuals ∷ Normal ∷ Convert ∷ Invert ∷ []
+all_commands = Publish ∷ Residuals ∷ Normal ∷ Convert ∷ Sample ∷ Invert ∷ []
 
 -- the options that a command needs, in the order of the option table
 abbrev pub needs : Command → List OptionName
@@ -60,6 +61,7 @@ needs Publish = opt.Kernel ∷ opt.Obs ∷ opt.Sc ∷ []
 needs Residuals = opt.Kernel ∷ opt.Obs ∷ opt.Sc ∷ []
 needs Normal = opt.Kernel ∷ []
 needs Convert = opt.Kernel ∷ opt.Sc ∷ opt.Clock ∷ []
+needs Sample = opt.Seed ∷ opt.Count ∷ []
 needs Invert = opt.Kernel ∷ opt.Sc ∷ opt.Time ∷ []
 
 -- the options that a command uses; others that are given are checked for their range alone
@@ -68,6 +70,7 @@ uses Publish = opt.Leap ∷ opt.Kernel ∷ opt.Obs ∷ opt.Sc ∷ opt.TolNs ∷ 
 uses Residuals = opt.Leap ∷ opt.Kernel ∷ opt.Obs ∷ opt.Sc ∷ []
 uses Normal = opt.Kernel ∷ []
 uses Convert = opt.Leap ∷ opt.Kernel ∷ opt.Sc ∷ opt.Clock ∷ []
+uses Sample = opt.TolNs ∷ opt.RateDecimals ∷ opt.BandPpm ∷ opt.Seed ∷ opt.Count ∷ []
 uses Invert = opt.Leap ∷ opt.Kernel ∷ opt.Sc ∷ opt.Time ∷ []
 
 -- ---- ranges

@@ -78,6 +78,12 @@ static CONVERT_REMARKS: [&str; 2] = [
     "The UTC is - where --leap is not given.",
 ];
 
+static SAMPLE_REMARKS: [&str; 3] = [
+    "Writes one line: sample, seed, count, new triples, the greatest difference in ps",
+    "and the ticks of the last triple. It reads no file: docs/SAMPLE.md tells what is",
+    "made. The slip has its default; nothing is held or dropped.",
+];
+
 static INVERT_REMARKS: [&str; 1] = [
     "Writes one line: clock reading, encoded tick and its TDT in seconds past J2000.",
 ];
@@ -92,6 +98,7 @@ impl Command {
             Command::Residuals => "how far each observation lies from the kernel",
             Command::Normal => "the kernel in canonical layout",
             Command::Convert => "the tick, TDT and UTC of one clock reading",
+            Command::Sample => "what publishing observations made from a seed comes to",
             Command::Invert => "the last clock reading that is not after one time",
         }
     }
@@ -105,6 +112,7 @@ impl Command {
             Command::Residuals => RESIDUALS_REMARKS.as_slice(),
             Command::Normal => NORMAL_REMARKS.as_slice(),
             Command::Convert => CONVERT_REMARKS.as_slice(),
+            Command::Sample => SAMPLE_REMARKS.as_slice(),
             Command::Invert => INVERT_REMARKS.as_slice(),
         }
     }

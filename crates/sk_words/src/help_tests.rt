@@ -43,7 +43,7 @@ fn three_words_ask_for_the_whole_help(rt: HostRuntime) -> Result<(), Fail> {
         assert!(rt; holds(first.as_slice(), part.as_bytes()), "{part}");
     }
     // Options of no command are not shown.
-    assert!(rt; !holds(first.as_slice(), b"--seed"));
+    assert!(rt; !holds(first.as_slice(), b"--new"));
     Ok(())
 }
 

@@ -14,6 +14,7 @@ impl<'a> Request<'a> {
     fn number(&self, name: OptionName) -> u64
         ensures number { (low high : ℕ) → HoldsNumbers name low high → result ≡ number_or (default_of name) name (options_in self.now) }
         ensures range { (low high : ℕ) → HoldsNumbers name low high → IsInRange low high (default_of name) → IsInRange low high result }
+        ensures most { (low high : ℕ) → HoldsNumbers name low high → default_of name ≤ high → result ≤ high }
     {
         let default = name.default_number();
         match self.text(name) {
@@ -63,6 +64,21 @@ impl<'a> Request<'a> {
             Some(_) => Some(self.number(OptionName::Hold)),
             None => None,
         }
+    }
+
+    /// The number that begins the sequence of a sample; 0 where the command has none.
+    pub fn seed(&self) -> u32
+        ensures { result ≡ number_or 0 OptionName.Seed (options_in self.now) }
+    {
+        self.number(OptionName::Seed) as u32
+    }
+
+    /// How many observations a sample has; 0 where the command has no such number.
+    pub fn count(&self) -> u32
+        ensures number { result ≡ number_or 0 OptionName.Count (options_in self.now) }
+        ensures range { result ≤ 100_000 }
+    {
+        self.number(OptionName::Count) as u32
     }
 
     /// The greatest count of observations that may be dropped.

@@ -36,14 +36,16 @@ pub enum Command {
     Residuals,
     Normal,
     Convert,
+    Sample,
     Invert,
 }
 
-static COMMANDS: [Command; 5] = [
+static COMMANDS: [Command; 6] = [
     Command::Publish,
     Command::Residuals,
     Command::Normal,
     Command::Convert,
+    Command::Sample,
     Command::Invert,
 ];
 
@@ -105,6 +107,16 @@ static CONVERT_USES: [OptionName; 4] = [
     OptionName::Kernel,
     OptionName::Sc,
     OptionName::Clock,
+];
+
+static SAMPLE_NEEDS: [OptionName; 2] = [OptionName::Seed, OptionName::Count];
+
+static SAMPLE_USES: [OptionName; 5] = [
+    OptionName::TolNs,
+    OptionName::RateDecimals,
+    OptionName::BandPpm,
+    OptionName::Seed,
+    OptionName::Count,
 ];
 
 static INVERT_NEEDS: [OptionName; 3] = [OptionName::Kernel, OptionName::Sc, OptionName::Time];
@@ -169,6 +181,7 @@ impl Command {
             Command::Residuals => "residuals",
             Command::Normal => "normal",
             Command::Convert => "convert",
+            Command::Sample => "sample",
             Command::Invert => "invert",
         }
     }
@@ -182,6 +195,7 @@ impl Command {
             Command::Residuals => RESIDUALS_NEEDS.as_slice(),
             Command::Normal => NORMAL_NEEDS.as_slice(),
             Command::Convert => CONVERT_NEEDS.as_slice(),
+            Command::Sample => SAMPLE_NEEDS.as_slice(),
             Command::Invert => INVERT_NEEDS.as_slice(),
         }
     }
@@ -195,6 +209,7 @@ impl Command {
             Command::Residuals => RESIDUALS_USES.as_slice(),
             Command::Normal => NORMAL_USES.as_slice(),
             Command::Convert => CONVERT_USES.as_slice(),
+            Command::Sample => SAMPLE_USES.as_slice(),
             Command::Invert => INVERT_USES.as_slice(),
         }
     }

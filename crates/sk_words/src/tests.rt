@@ -409,3 +409,45 @@ fn what_the_command_does_not_use_has_its_default(rt: HostRuntime) -> Result<(), 
     assert!(rt; request.hold().is_none());
     Ok(())
 }
+
+#[test]
+fn a_sample_needs_a_seed_and_a_count(rt: HostRuntime) -> Result<(), Fail> {
+    let alloc = rt.alloc();
+    // The options that are given, what is refused, and of which option.
+    let table: [(&str, &str, &str, &str); 9] = [
+        ("--seed=0", "--seed=0", "NotTaken", ""),
+        ("--count=1", "--tol-ns=1", "NeedOption", "seed"),
+        ("--seed=x", "--tol-ns=0", "NeedOption", "count"),
+        ("--seed=4294967296", "--count=0", "OutOfRange", "seed"),
+        ("--seed=-1", "--count=1", "OutOfRange", "seed"),
+        ("--seed=0", "--count=0", "OutOfRange", "count"),
+        ("--seed=0", "--count=100001", "OutOfRange", "count"),
+        ("--seed=4294967295", "--count=100000", "Taken", ""),
+        ("--seed=0000000000000000", "--count=0000000000000001", "Taken", ""),
+    ];
+    for (place, (first, second, cause, name)) in table.iter().enumerate() {
+        let words = ["station", "sample", *first, *second];
+        assert!(rt;
+            refusal(alloc, words.as_slice()) == (*cause, *name),
+            "at {place}"
+        );
+    }
+    let words = [
+        "station",
+        "sample",
+        "--seed=4294967295",
+        "--count=100000",
+        "--slip-ns=0",
+        "--band-ppm=7",
+    ];
+    let request = match requested(alloc, words.as_slice()) {
+        Ok(request) => request,
+        Err(_) => return Err("refused".into()),
+    };
+    assert!(rt; request.seed() == 4_294_967_295);
+    assert!(rt; request.count() == 100_000);
+    assert!(rt; request.band() == 7);
+    // A sample has the default slip.
+    assert!(rt; request.slip() == 1_000_000);
+    Ok(())
+}

@@ -4,7 +4,7 @@ use Rattle.std.specs.Prelude.{codes, unwrap_or, IsSomeAnd}
 use Rattle.sk_status.specs.declared.status.Status.{Status}
 use Rattle.sk_status.specs.declared.status.Status.TheVariants.{Done, WordsRefused, LeapRefused, KernelRefused, ObservationRefused, NotPublished, WriteFault, NoMemory, TimeRefused}
 use Rattle.sk_words.specs.declared.tables.Command.{Command}
-use Rattle.sk_words.specs.declared.tables.Command.TheVariants.{Publish, Residuals, Normal, Convert, Invert}
+use Rattle.sk_words.specs.declared.tables.Command.TheVariants.{Publish, Residuals, Normal, Convert, Sample, Invert}
 use Rattle.sk_status.specs.declared.status.FileKind.{FileKind}
 use Rattle.sk_status.specs.declared.status.FileKind.TheVariants.{Document, Observations}
 use Rattle.sk_status.specs.declared.status.DocumentKind.{DocumentKind}
@@ -40,7 +40,9 @@ use Rattle.sk_obs.specs.File.{records_of, file_checks, record_checks, own_checks
 use Rattle.sk_obs.specs.Words.{TimeWord, TdtNumber, UtcCode, CucHex, CdsHex, OtherWord, time_word, time_checks}
 use Rattle.sk_fit.specs.declared.fault.FitFault.{FitFault}
 use Rattle.sk_fit.specs.declared.fault.FitFault.TheVariants as fit
+use Rattle.sk_fit.specs.declared.chain.Chain.{Chain}
 use Rattle.sk_fit.specs.Causes.{Fits, input}
+use Rattle.sk_fit.specs.Given.{new_triples_of}
 use Rattle.sk_report.specs.Report.{table_checks}
 use Rattle.sk_report.specs.declared.fault.ReportFault.{ReportFault}
 use Rattle.sk_report.specs.declared.fault.ReportFault.TheVariants as report_fault
@@ -54,11 +56,13 @@ use Rattle.sk_outcome.specs.Files as files
 use Rattle.sk_outcome.specs.Seen.{Source}
 use Rattle.sk_outcome.specs.Files.{KernelRead, OpenedRead, InputsRead, reads, judged, refused_by, document_too_long, too_long, opened_read, inputs_read, sc_of}
 use Rattle.sk_inverse.specs.Inverse.{IsTickOf, inverse_checks}
+use Rattle.sk_sample.specs.Sample.{kernel_text, spacecraft, observations_text}
 use Rattle.sk_inverse.specs.declared.fault.InverseFault.{InverseFault}
 use Rattle.sk_inverse.specs.declared.fault.InverseFault.TheVariants as inverse_fault
-use Rattle.sk_outcome.specs.Outcome.{requested, commanded, told_or, outcome, outcome_of, publish, publish_of, chain_of, residuals, residuals_of, normal, normal_of, convert, convert_of, converted, invert, invert_of, said, ticked, told, TimeOf, status_of_time, clock_tick, TickOf, covered, tabled, all_covered, status_of_report}
+use Rattle.sk_outcome.specs.Outcome.{requested, commanded, told_or, outcome, outcome_of, publish, publish_of, chain_of, residuals, residuals_of, normal, normal_of, convert, convert_of, converted, sample, sample_of, sampled, invert, invert_of, said, ticked, told, TimeOf, status_of_time, clock_tick, TickOf, covered, tabled, all_covered, status_of_report}
 use Rattle.sk_outcome.specs.Publishing.{after_chain, after_rows}
 use Rattle.sk_outcome.specs.Output.{settings_of, plain_table, new_kernel, published_doc, tick_fields, time_by, line_of}
+use Rattle.sk_outcome.specs.Sample.{made_kernel, made_observations, made_inputs, sample_line, seed_of, count_of}
 use Rattle.sk_outcome.specs.Time.{IsUtcWord}
 use Rattle.sk_outcome.proofs.Follows.{kernel_after, rows_after}
 use Rattle.sk_outcome.specs.Ending.{Ends}
@@ -263,10 +267,14 @@ fit_stands : (options : Options) (kernel : KernelRead) (rows : List RowView) (fa
 fit_stands options kernel rows fit.NoMemory h = absurd h
 fit_stands options kernel rows _ h = standing
 
+always_chain : (options : Options) (kernel : KernelRead) (rows : List RowView) → Always (chain_of options kernel rows)
+always_chain options kernel rows =
+    always_judged (Fits (input kernel.triples kernel.clock rows (settings_of options)) rows) NotPublished (fit_stands options kernel rows)
+
 always_after_rows : (options : Options) (kernel : KernelRead) (rows : List RowView) → Always (after_rows options kernel rows)
 always_after_rows options kernel rows =
     always_then (chain_of options kernel rows) (after_chain options kernel rows)
-    (always_judged (Fits (input kernel.triples kernel.clock rows (settings_of options)) rows) NotPublished (fit_stands options kernel rows))
+    (always_chain options kernel rows)
     (λ chain. always_then (all_covered (new_kernel kernel chain) rows) (λ covers. gives (canonical_text (published_doc options kernel rows chain)))
     (always_all_covered (new_kernel kernel chain) rows) (λ covers. always_gives (canonical_text (published_doc options kernel rows chain))))
 
@@ -300,6 +308,34 @@ always_convert source options =
     (always_judged (TickOf (text_or opt.Clock options) opened.kernel.clock) (λ w. ObservationRefused (obs_stop.Clock w)) (λ fault h. standing))
     (always_converted opened.leap opened.kernel))
 
+always_made_kernel : Always made_kernel
+always_made_kernel =
+    always_then (judged (files.DocOf kernel_text) (refused_by Kernel)) (files.kernel_meaning spacecraft)
+    (always_judged (files.DocOf kernel_text) (refused_by Kernel) (doc_stands Kernel kernel_text)) (always_meaning spacecraft)
+
+always_made_observations : (options : Options) (kernel : KernelRead) → Always (made_observations options kernel)
+always_made_observations options kernel =
+    let bytes : List ℕ = observations_text (seed_of options) (count_of options) in
+    always_judged (files.ObservationsOf bytes kernel.clock []) (λ f. ObservationRefused (obs_stop.Record f))
+    (λ fault h. said_of RecordStands (file_checks kernel.clock [] (records_of bytes)) fault (file_said kernel.clock [] (records_of bytes)) h)
+
+always_made : (options : Options) → Always (made_inputs options)
+always_made options =
+    always_then made_kernel (λ kernel. made_observations options kernel >>= (λ rows. gives {A = InputsRead} (record { kernel = kernel; observations = rows }))) always_made_kernel
+    (λ kernel. always_then (made_observations options kernel) (λ rows. gives {A = InputsRead} (record { kernel = kernel; observations = rows })) (always_made_observations options kernel)
+    (λ rows. always_gives {A = InputsRead} (record { kernel = kernel; observations = rows })))
+
+always_sampled : (options : Options) (kernel : KernelRead) (rows : List RowView) (chain : Chain) → Always (sampled options kernel rows chain)
+always_sampled options kernel rows chain =
+    always_then (all_covered (new_kernel kernel chain) rows) (λ covers. gives (sample_line options kernel rows (new_triples_of chain)))
+    (always_all_covered (new_kernel kernel chain) rows) (λ covers. always_gives (sample_line options kernel rows (new_triples_of chain)))
+
+always_sample : (source : Source) (options : Options) → Always (sample source options)
+always_sample source options =
+    always_then (made_inputs options) (sample_of options) (always_made options)
+    (λ inputs. always_then (chain_of options inputs.kernel inputs.observations) (sampled options inputs.kernel inputs.observations)
+    (always_chain options inputs.kernel inputs.observations) (always_sampled options inputs.kernel inputs.observations))
+
 ticked_stands : (fault : InverseFault) → Stands (status_of_time fault)
 ticked_stands inverse_fault.BeforeFirst = standing
 ticked_stands inverse_fault.PastEnd = standing
@@ -323,6 +359,7 @@ always_command Publish source options = always_publish source options
 always_command Residuals source options = always_residuals source options
 always_command Normal source options = always_normal source options
 always_command Convert source options = always_convert source options
+always_command Sample source options = always_sample source options
 always_command Invert source options = always_invert source options
 
 always_commanded : (words : List (List ℕ)) (source : Source) → Always (commanded words source)

@@ -7,9 +7,12 @@ mod help_tests;
 mod inputs;
 #[cfg(test)]
 mod invert_tests;
+mod made;
 #[cfg(test)]
 mod publish_tests;
 mod reading;
+#[cfg(test)]
+mod sample_tests;
 #[cfg(test)]
 mod tests;
 mod top;

@@ -105,6 +105,17 @@ fn doc_of(kind: DocumentKind, reader: Reader) -> Result<Doc, Status>
     }
 }
 
+/// The document of a text.
+pub fn document_of(alloc: Global, kind: DocumentKind, text: &[u8]) -> Result<Doc, Status>
+    requires { length text.now ≤ 16777216 }
+    ensures stage { MayAnswer (λ d. d) (judged (DocOf text.now) (refused_by kind)) result }
+    ensures few { IfOk result HasFew }
+{
+    let mut reader = Reader::new(alloc);
+    let _ = reader.feed(text);
+    doc_of(kind, reader)
+}
+
 /// The document of a file.
 pub fn document<D: Depot>(
     alloc: Global,

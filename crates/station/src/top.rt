@@ -18,12 +18,14 @@ ghost use Rattle.sk_status.specs.declared.status.Status.{Status as Ended};
 
 use crate::files::kernel_document;
 use crate::inputs::{read_inputs, read_opened};
+use crate::made::made_inputs;
 use sk_checks::NoMemory;
 use sk_commands::convert::convert;
 use sk_commands::invert::invert;
 use sk_commands::normal::normal;
 use sk_commands::publish::publish;
 use sk_commands::residuals::residuals;
+use sk_commands::sample::sample;
 use sk_edge::{Depot, Failed, Sink, write_all};
 use sk_status::{Status, write_note};
 use sk_words::{Command, Request, Topic, WordsFault, WordsStop, page, requested, topic_of};
@@ -55,6 +57,7 @@ fn command_text<D: Depot>(
         Command::Residuals => residuals(alloc, read_inputs(alloc, depot, request)?),
         Command::Normal => normal(alloc, kernel_document(alloc, depot, request)?),
         Command::Convert => convert(alloc, request, read_opened(alloc, depot, request)?),
+        Command::Sample => sample(alloc, request, made_inputs(alloc, request)?),
         Command::Invert => invert(alloc, request, read_opened(alloc, depot, request)?),
     }
 }

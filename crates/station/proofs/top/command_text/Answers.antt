@@ -5,7 +5,8 @@ use Rattle.sk_words.specs.Request.{Options}
 use Rattle.sk_outcome.specs.Stage.{MayAnswer}
 use Rattle.sk_outcome.specs.Seen.{Source, seen_by}
 use Rattle.sk_outcome.specs.Files.{opened_read, inputs_read}
-use Rattle.sk_outcome.specs.Outcome.{outcome_of, publish_of, residuals_of, convert_of, invert_of}
+use Rattle.sk_outcome.specs.Outcome.{outcome_of, publish_of, residuals_of, convert_of, sample_of, invert_of}
+use Rattle.sk_outcome.specs.Sample.{made_inputs}
 use Rattle.sk_outcome.proofs.Moves.{may_then}
 use Rattle.station.proofs.top.command_text.Goals as goal
 
@@ -40,3 +41,11 @@ returns-in_ok-read_opened-in-Invert-clause-stage g c =
     let source : Source = seen_by depot.holds depot.given depot.faults c.args.depot.now c.read_opened-in-Invert.new.depot in
     subst (λ (command : Command). MayAnswer (λ (v : Vec ℕ Global). v.items) (outcome_of command source options) c.invert.result) c.in-Invert.ensures
     (may_then (λ (v : Vec ℕ Global). v.items) (opened_read source options) (invert_of options) c.in_ok-read_opened-in-Invert.field-0 c.invert.result c.in_ok-read_opened-in-Invert.ensures.stage c.invert.ensures)
+
+pub returns-in_ok-made_inputs-in-Sample-clause-stage : goal.returns-in_ok-made_inputs-in-Sample-clause-stage
+returns-in_ok-made_inputs-in-Sample-clause-stage g c =
+    let depot = g.D.Depot in
+    let options : Options = options_in c.args.request.now in
+    let source : Source = seen_by depot.holds depot.given depot.faults c.args.depot.now c.args.depot.now in
+    subst (λ (command : Command). MayAnswer (λ (v : Vec ℕ Global). v.items) (outcome_of command source options) c.sample.result) c.in-Sample.ensures
+    (may_then (λ (v : Vec ℕ Global). v.items) (made_inputs options) (sample_of options) c.in_ok-made_inputs-in-Sample.field-0 c.sample.result c.in_ok-made_inputs-in-Sample.ensures c.sample.ensures)
