@@ -155,7 +155,10 @@ fn a_flush_that_fails_fails_the_write(rt: HostRuntime) -> Result<(), Fail> {
     // Eight bytes are three writes, each of which is flushed.
     for (room, is_whole) in [(0, false), (1, false), (2, false), (3, true)] {
         let mut sink = StreamSink::new(Pipe { room });
-        assert!(rt; write_all(&mut sink, b"abcdefgh").is_ok() == is_whole, "room {room}");
+        assert!(rt;
+            write_all(&mut sink, b"abcdefgh").is_ok() == is_whole,
+            "room {room}"
+        );
         assert!(rt; write_all(&mut sink, b"i").is_err(), "behind room {room}");
     }
     Ok(())
@@ -182,9 +185,13 @@ fn each_file_of_the_host_is_its_own(rt: HostRuntime) -> Result<(), Fail> {
     assert!(rt; depot.choose("first").is_ok());
     assert!(rt; depot.read("first", &mut piece).ok() == Some(2));
     assert_eq!(rt; piece.as_slice(), b"ab".as_slice());
-    let second = read_all(alloc, &mut depot, "second", 4).ok().ok_or("not read")?;
+    let second = read_all(alloc, &mut depot, "second", 4)
+        .ok()
+        .ok_or("not read")?;
     assert_eq!(rt; second.as_slice(), b"defg".as_slice());
-    let first = read_all(alloc, &mut depot, "first", 4).ok().ok_or("not read")?;
+    let first = read_all(alloc, &mut depot, "first", 4)
+        .ok()
+        .ok_or("not read")?;
     assert_eq!(rt; first.as_slice(), b"abc".as_slice());
     Ok(())
 }
