@@ -1,5 +1,7 @@
 use super::*;
 use std::alloc::{AllocError, Global};
+use std::io;
+use std::io::{ErrorKind, Write};
 use std::test::Fail;
 
 fn file(alloc: Global, name: &str, bytes: &[u8]) -> Result<(String, Vec<u8>), AllocError> {
@@ -125,5 +127,71 @@ fn each_call_of_a_writing_may_fail(rt: HostRuntime) -> Result<(), Fail> {
         );
         assert_eq!(rt; sink.written(), written.as_bytes(), "call {call}");
     }
+    Ok(())
+}
+
+/// A writer that takes three bytes at a time, and cannot flush where it is full.
+#[derive(Drop)]
+struct Pipe {
+    room: usize,
+}
+
+impl Write for Pipe {
+    fn write(&mut self, buf: &[u8]) -> io::Result<usize> {
+        Ok(buf.len().min(3))
+    }
+
+    fn flush(&mut self) -> io::Result<()> {
+        if self.room == 0 {
+            return Err(io::Error::from(ErrorKind::StorageFull));
+        }
+        self.room -= 1;
+        Ok(())
+    }
+}
+
+#[test]
+fn a_flush_that_fails_fails_the_write(rt: HostRuntime) -> Result<(), Fail> {
+    // Eight bytes are three writes, each of which is flushed.
+    for (room, is_whole) in [(0, false), (1, false), (2, false), (3, true)] {
+        let mut sink = StreamSink::new(Pipe { room });
+        assert!(rt;
+            write_all(&mut sink, b"abcdefgh").is_ok() == is_whole,
+            "room {room}"
+        );
+        assert!(rt; write_all(&mut sink, b"i").is_err(), "behind room {room}");
+    }
+    Ok(())
+}
+
+#[test]
+fn a_writer_takes_each_byte_once(rt: HostRuntime) -> Result<(), Fail> {
+    let mut bytes = Vec::new(rt.alloc());
+    let mut sink = StreamSink::new(&mut bytes);
+    assert!(rt; write_all(&mut sink, b"abc").is_ok());
+    assert!(rt; write_all(&mut sink, b"").is_ok());
+    assert!(rt; write_all(&mut sink, b"def").is_ok());
+    assert_eq!(rt; bytes.as_slice(), b"abcdef".as_slice());
+    Ok(())
+}
+
+#[test]
+fn each_file_of_the_host_is_its_own(rt: HostRuntime) -> Result<(), Fail> {
+    let alloc = rt.alloc();
+    std::fs::write(&rt, "first", "abc")?;
+    std::fs::write(&rt, "second", "defg")?;
+    let mut depot = FileDepot::new(&rt);
+    let mut piece = [0u8; 2];
+    assert!(rt; depot.choose("first").is_ok());
+    assert!(rt; depot.read("first", &mut piece).ok() == Some(2));
+    assert_eq!(rt; piece.as_slice(), b"ab".as_slice());
+    let second = read_all(alloc, &mut depot, "second", 4)
+        .ok()
+        .ok_or("not read")?;
+    assert_eq!(rt; second.as_slice(), b"defg".as_slice());
+    let first = read_all(alloc, &mut depot, "first", 4)
+        .ok()
+        .ok_or("not read")?;
+    assert_eq!(rt; first.as_slice(), b"abc".as_slice());
     Ok(())
 }
