@@ -126,6 +126,32 @@ def published(records, tolerance, step):
         print(name, clock_text(encoded), decimals(observed), decimals(time), observed - time, number, "new", ends.get(place, ""), sep=";")
 
 
+def slopes(sights, slack):
+    """The slope of each pair of sights if its later time moves by so many picoseconds, and the numbers of the two records. A pair
+    with an earlier later sight comes first."""
+    return [(Fraction(b[3] - a[3] + slack, b[2] - a[2]), a[0], b[0]) for place, b in enumerate(sights) for a in sights[:place]]
+
+
+def least(records, tolerance):
+    """The longest runs of observations that one line is within the tolerance of, in one partition as here: of no run is the
+    greatest slope that a pair needs above the least one that a pair has room for."""
+    sights = [(number, name, encoded, sent - delay * 1000) for number, (name, encoded, sent, delay) in enumerate(records, 2)]
+    runs = []
+    while sights:
+        count, end = len(sights), "last"
+        for past in range(2, len(sights) + 1):
+            need = max(slopes(sights[:past], -2 * tolerance), key=lambda pair: pair[0])
+            room = min(slopes(sights[:past], 2 * tolerance), key=lambda pair: pair[0])
+            if room[0] < need[0]:
+                count, end = past - 1, "bent:%d:%d:%d:%d" % (*need[1:], *room[1:])
+                break
+        runs.append((sights[0][1], sights[count - 1][1], end))
+        del sights[:count]
+    print("least;%d" % len(runs))
+    for run in runs:
+        print(*run, sep=";")
+
+
 def plain(number):
     """The decimals of the number, without zeros at the end."""
     places = next(s for s in range(19) if (Fraction(number) * 10**s).denominator == 1)
@@ -168,5 +194,7 @@ print("shutter.converted")
 line(tick(0x1CFDE0, 0x4000), utc_text)
 print("lander.converted")
 lander_line(950400, 25000)
+print("pass-022.least")
+least(PASS_022, 20000 * 1000)
 print("pass-022.published, after orbiter.canonical")
 published(PASS_022, 30000 * 1000, Fraction(1, 10**12))

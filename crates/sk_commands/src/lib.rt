@@ -6,6 +6,7 @@ pub mod differences;
 mod inputs;
 pub mod invert;
 mod kernel;
+pub mod least;
 mod meaning;
 pub mod normal;
 pub mod publish;

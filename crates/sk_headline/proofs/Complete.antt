@@ -1,5 +1,5 @@
 -- Where nothing fails and the files are known, a run comes to one end.
-use Rattle.std.proofs.Common.{rules, ◌≡◌, ℕ, zero, suc, ◌<◌, ◌≤◌, List, [], ◌∷◌, ◌++◌, length, Option, Some, None, Result, Ok, Err, refl, sym, ap, subst, ◌∙◌, ◌⊎◌, inl, inr, arith}
+use Rattle.std.proofs.Common.{rules, ◌≡◌, ℕ, zero, suc, ◌*◌, ◌<◌, ◌≤◌, List, [], ◌∷◌, ◌++◌, length, Option, Some, None, Result, Ok, Err, refl, sym, ap, subst, ◌∙◌, ◌⊎◌, inl, inr, arith}
 use Rattle.std.specs.Prelude.{All, IsSome, IfSome, codes, unwrap_or, is_none, false, slice_index_or}
 use Rattle.std.specs.Option.{option_to_list, option_map_or}
 use Rattle.std.proofs.lemmas.Option.{same_Some}
@@ -26,9 +26,10 @@ use Rattle.sk_fit.proofs.OneAnswer.{one_refusal, one_gives, gives_unrefused}
 use Rattle.sk_report.specs.Report.{table_checks}
 use Rattle.sk_sample.specs.Sample.{kernel_text, spacecraft, observations_text}
 use Rattle.sk_words.specs.declared.tables.Command.{Command}
-use Rattle.sk_words.specs.declared.tables.Command.TheVariants.{Publish, Residuals, Normal, Convert, Sample, Invert}
+use Rattle.sk_words.specs.declared.tables.Command.TheVariants.{Publish, Residuals, Normal, Convert, Sample, Invert, Least}
+use Rattle.sk_least.proofs.OneCover.{one_answer}
 use Rattle.sk_words.specs.declared.tables.OptionName.TheVariants as opt
-use Rattle.sk_words.specs.Request.{Options, text_or, files_of, over_names}
+use Rattle.sk_words.specs.Request.{Options, text_or, number_or, files_of, over_names}
 use Rattle.sk_words.specs.Asked.{Request, WordsAsk}
 use Rattle.sk_words.proofs.Needed.{AreNamed, are_named}
 use Rattle.sk_status.specs.declared.status.Status.{Status}
@@ -48,10 +49,10 @@ use Rattle.sk_outcome.specs.Files as files
 use Rattle.sk_outcome.specs.Seen.{Source}
 use Rattle.sk_outcome.specs.Files.{KernelRead, reads, judged, document, refused_by, too_long, file_limit, sc_of, leap_named, leap_file, leap_meaning, leap_pool, leap_table, kernel_document, kernel_meaning, kernel_file, kernel_pool, kernel_clock, kernel_triples, observation_file, observed, OpenedRead, InputsRead, opened_read, inputs_read}
 use Rattle.sk_outcome.specs.Publishing.{after_chain, after_rows}
-use Rattle.sk_outcome.specs.Output.{settings_of, dated, plain_table, new_kernel, tick_fields, time_by, line_of}
+use Rattle.sk_outcome.specs.Output.{settings_of, dated, plain_table, new_kernel, tick_fields, time_by, line_of, least_text}
 use Rattle.sk_outcome.specs.Sample.{made_kernel, made_observations, made_inputs, sample_line, seed_of, count_of}
 use Rattle.sk_outcome.specs.Time.{IsUtcWord}
-use Rattle.sk_outcome.specs.Outcome.{requested, commanded, told_or, outcome, outcome_of, publish, publish_of, chain_of, residuals, residuals_of, normal, normal_of, convert, convert_of, converted, sample, sample_of, sampled, invert, invert_of, said, ticked, told, covered, clock_tick, TickOf, tabled, all_covered, status_of_report}
+use Rattle.sk_outcome.specs.Outcome.{requested, commanded, told_or, outcome, outcome_of, publish, publish_of, chain_of, residuals, residuals_of, normal, normal_of, convert, convert_of, converted, sample, sample_of, sampled, invert, invert_of, said, ticked, told, covered, clock_tick, TickOf, tabled, all_covered, status_of_report, least, least_of, ShortestCover}
 use Rattle.sk_outcome.specs.Ending.{Ends, HasEnded}
 use Rattle.sk_headline.proofs.Determined.{then_determined, then_determined_of, judged_determined, gives_determined, judges_one}
 use Rattle.sk_headline.proofs.OneAnswer.{doc_one, pool_one, leap_one, clock_one, triples_one, range_single, table_single, words_one}
@@ -234,9 +235,9 @@ publish_determined : (source : Source) (options : Options) → IsCalm source →
 publish_determined source options calm known =
     then_determined (inputs_read source options) (publish_of options) (inputs_determined source options calm known) (λ inputs. rows_determined options inputs.kernel inputs.observations)
 
--- a word with a property, and a text with it in
-shown_determined : (P : List ℕ → Type 0) (text : List ℕ → List ℕ) → ((v w : List ℕ) → P v → P w → v ≡ w) → IsDetermined (some P >>= (λ word. gives (text word)))
-shown_determined P text one (Ok x) (Ok y) p q = p.2 ∙ ap (λ (word : List ℕ). Ok (text word)) (one p.0 q.0 p.1 q.1) ∙ sym q.2
+-- one value with a property, and a text with it in
+shown_determined : {A : Type 0} (P : A → Type 0) (text : A → List ℕ) → ((v w : A) → P v → P w → v ≡ w) → IsDetermined (some P >>= (λ value. gives (text value)))
+shown_determined {A} P text one (Ok x) (Ok y) p q = p.2 ∙ ap (λ (value : A). Ok (text value)) (one p.0 q.0 p.1 q.1) ∙ sym q.2
 shown_determined P text one (Ok x) (Err s) p (inl q) = absurd q
 shown_determined P text one (Ok x) (Err s) p (inr q) = let e : ◌≡◌ {A = Result (List ℕ) Status} (Err s) (Ok (text q.0)) = q.2 in cc
 shown_determined P text one (Err s) b (inl p) q = absurd p
@@ -315,6 +316,12 @@ invert_determined source options calm known =
     (λ opened. then_determined (said (text_or opt.Time options) opened.leap) (λ time. ticked opened.kernel time >>= told opened.kernel) (said_determined (text_or opt.Time options) opened.leap)
     (λ time. then_determined (ticked opened.kernel time) (told opened.kernel) (ticked_determined opened.kernel time) (told_determined opened.kernel)))
 
+least_determined : (source : Source) (options : Options) → IsCalm source → AreKnown source options → IsDetermined (least source options)
+least_determined source options calm known =
+    then_determined (inputs_read source options) (least_of options) (inputs_determined source options calm known)
+    (λ inputs. shown_determined (ShortestCover options inputs) (least_text inputs.observations)
+    (one_answer inputs.kernel.clock (number_or 1000000 opt.TolNs options * 1000) inputs.observations))
+
 -- ---- the files of the words
 
 pub front_known : (P : List ℕ → Type 0) (names others : List (List ℕ)) → All P (names ++ others) → (k : ℕ) (d : List ℕ) → k < length names → P (slice_index_or names k d)
@@ -379,6 +386,7 @@ command_determined Normal source options calm named known =
 command_determined Convert source options calm named known = convert_determined source options calm (files_open source options named known)
 command_determined Sample source options calm named known = sample_determined source options
 command_determined Invert source options calm named known = invert_determined source options calm (files_open source options named known)
+command_determined Least source options calm named known = least_determined source options calm (files_known source options named known)
 
 -- ---- the whole
 

@@ -19,3 +19,4 @@ pub mod Timed
 pub mod Exactly
 pub mod Uses
 pub mod Named
+pub mod Fewest

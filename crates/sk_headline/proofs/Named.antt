@@ -5,7 +5,7 @@ use Rattle.std.specs.Option.{option_to_list, option_map_or}
 use Rattle.sk_grammar.specs.Document.{DocView}
 use Rattle.sk_leap.specs.declared.pair.LeapPair.{LeapPair}
 use Rattle.sk_words.specs.declared.tables.Command.{Command}
-use Rattle.sk_words.specs.declared.tables.Command.TheVariants.{Publish, Residuals, Normal, Convert, Sample, Invert}
+use Rattle.sk_words.specs.declared.tables.Command.TheVariants.{Publish, Residuals, Normal, Convert, Sample, Invert, Least}
 use Rattle.sk_words.specs.declared.tables.OptionName.TheVariants as opt
 use Rattle.sk_words.specs.declared.topic.Topic.{Topic}
 use Rattle.sk_words.specs.Asked.{Request}
@@ -21,7 +21,7 @@ use Rattle.sk_status.specs.declared.status.FileKind.TheVariants.{Document, Obser
 use Rattle.sk_outcome.specs.Stage.{Stage, ◌>>=◌, gives, IsDetermined}
 use Rattle.sk_outcome.specs.Seen.{Source}
 use Rattle.sk_outcome.specs.Files.{reads, judged, file_limit, DocOf, refused_by, document, leap_named, leap_file, leap_meaning, kernel_document, kernel_meaning, kernel_file, observation_file, observed, OpenedRead, InputsRead, opened_read, inputs_read, sc_of}
-use Rattle.sk_outcome.specs.Outcome.{requested, commanded, told_or, outcome, outcome_of, publish_of, residuals_of, normal_of, convert_of, sample, invert_of, over_documents}
+use Rattle.sk_outcome.specs.Outcome.{requested, commanded, told_or, outcome, outcome_of, publish_of, residuals_of, normal_of, convert_of, sample, invert_of, least_of, over_documents}
 use Rattle.sk_headline.specs.Uses.{quiet, EachNamed, OneOutcome, NamedFilesAlone}
 use Rattle.sk_headline.proofs.Determined.{then_determined_of, gives_determined}
 use Rattle.sk_headline.proofs.Complete.{HaveBytes, have_bytes, front_known, others_known, one_known, named_known, command_determined, requested_determined}
@@ -162,6 +162,9 @@ module _ (s u : Source) (read : s.given ≤ u.given) where
     command_moved Invert named files =
         then_moved (opened_read s options) (opened_read u options) (invert_of options) (invert_of options)
         (opened_moved files.leap (given (options opt.Kernel) named files.kernel)) (λ opened. unmoved (invert_of options opened))
+    command_moved Least named files =
+        then_moved (inputs_read s options) (inputs_read u options) (least_of options) (least_of options)
+        (inputs_moved files.leap (given (options opt.Kernel) named.0 files.kernel) (given (options opt.Obs) named.1 files.observations)) (λ inputs. unmoved (least_of options inputs))
 
 -- ---- the whole
 

@@ -72,13 +72,23 @@ each : (P : Sight → Type 0) → ((o : Sight) → P o) → (xs : List Sight) �
 each P p [] = tt
 each P p (o ∷ xs) = (p o, each P p xs)
 
+-- the new observations that are kept
+pub kept_rise : (t : Terms) (total : ℕ) (rows : List RowView) (kept dropped : List Sight) → AreRows total rows → Sorts t (sights rows) kept dropped → SightsRise kept
+kept_rise t total rows kept dropped are sorts = kept_ordered (λ (a b : Sight). a.tick < b.tick) t (sights rows) kept dropped sorts (sights_rise 0 rows are.rising)
+
+pub kept_past_old : (t : Terms) (all kept dropped : List Sight) → Sorts t all kept dropped → AllByRecursion (λ o. t.old.anchor.ticks < o.tick) kept
+kept_past_old t all kept dropped sorts =
+    kept_all t (λ (o : Sight). t.old.anchor.ticks < o.tick) all kept dropped sorts (each (λ (o : Sight). is_new t o ≡ true → t.old.anchor.ticks < o.tick) (past_old t) all)
+
+pub kept_past_seam : (t : Terms) (all kept dropped : List Sight) → Sorts t all kept dropped
+    → AllByRecursion (λ o. partition_at t o.tick ≡ partition_at t t.old.anchor.ticks → seam t < o.tick) kept
+kept_past_seam t all kept dropped sorts =
+    kept_all t (λ (o : Sight). partition_at t o.tick ≡ partition_at t t.old.anchor.ticks → seam t < o.tick) all kept dropped sorts
+    (each (λ (o : Sight). is_new t o ≡ true → partition_at t o.tick ≡ partition_at t t.old.anchor.ticks → seam t < o.tick) (past_seam t) all)
+
 pub kept_within : (t : Terms) (total : ℕ) (rows : List RowView) (front : List TripleView) (kept dropped : List Sight) (chain : List SegmentView) → 0 < t.gauge.per_count → AreRows total rows
     → Rise ((front ++ t.old ∷ []) ++ new_triples chain) → Sorts t (sights rows) kept dropped → IsChain t kept None chain
     → AllByRecursion (IsWithinTolerance t.gauge ((front ++ t.old ∷ []) ++ new_triples chain)) kept
 kept_within t total rows front kept dropped chain positive are rise sorts is =
     tolerance_law t front kept None chain positive (triples_rise ((front ++ t.old ∷ []) ++ new_triples chain) rise)
-    (kept_ordered (λ (a b : Sight). a.tick < b.tick) t (sights rows) kept dropped sorts (sights_rise 0 rows are.rising))
-    (kept_all t (λ (o : Sight). t.old.anchor.ticks < o.tick) (sights rows) kept dropped sorts (each (λ (o : Sight). is_new t o ≡ true → t.old.anchor.ticks < o.tick) (past_old t) (sights rows)))
-    (kept_all t (λ (o : Sight). partition_at t o.tick ≡ partition_at t t.old.anchor.ticks → seam t < o.tick) (sights rows) kept dropped sorts
-    (each (λ (o : Sight). is_new t o ≡ true → partition_at t o.tick ≡ partition_at t t.old.anchor.ticks → seam t < o.tick) (past_seam t) (sights rows)))
-    is
+    (kept_rise t total rows kept dropped are sorts) (kept_past_old t (sights rows) kept dropped sorts) (kept_past_seam t (sights rows) kept dropped sorts) is

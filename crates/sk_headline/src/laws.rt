@@ -1,5 +1,6 @@
 //! Laws of runs, of publications and of lines: functions with empty bodies, whose contracts are proved.
 
+ghost use Rattle.sk_headline.specs.Fewest.{NoFewerTriples, NoFewerThanTold};
 ghost use Rattle.sk_headline.specs.Headline.{OneText};
 ghost use Rattle.sk_headline.specs.Uses.{OneOutcome, NamedFilesAlone, ReadAgain, AddsNothing, AddsOneBlock, NoneAddsNone, SameDocument, CanonicalIsRead, TextIsRead, UtcIsRead};
 
@@ -56,4 +57,11 @@ pub fn text_is_read()
 /// The UTC that `convert` printed is read as the time that it printed.
 pub fn utc_is_read()
     ensures { UtcIsRead }
+{}
+
+/// The old last triple and the new ones are no fewer than the lines that the kept new observations need; and no fewer than
+/// `least` tells, where each observation is new and none is dropped.
+pub fn no_fewer_triples()
+    ensures kept { NoFewerTriples }
+    ensures told { NoFewerThanTold }
 {}

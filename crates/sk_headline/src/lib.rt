@@ -3,4 +3,7 @@
 
 mod laws;
 
-pub use laws::{adds_nothing, adds_one_block, canonical_is_read, named_files_alone, none_adds_none, one_outcome, one_text, read_again, same_document, text_is_read, utc_is_read};
+pub use laws::{
+    adds_nothing, adds_one_block, canonical_is_read, named_files_alone, no_fewer_triples,
+    none_adds_none, one_outcome, one_text, read_again, same_document, text_is_read, utc_is_read,
+};

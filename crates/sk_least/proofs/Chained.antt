@@ -1,7 +1,7 @@
 -- Longest runs, one after another, are a shortest cover.
 use Rattle.std.proofs.Common.{◌≡◌, ℕ, zero, suc, ◌+◌, ◌-◌, ◌<◌, ◌≤◌, List, [], ◌∷◌, ◌++◌, length, map, take, drop, Some, refl, sym, ap, subst, arith, ◌∙◌, length-drop}
 use Rattle.std.proofs.lemmas.List.{take-append-drop, drop-drop, drop_all}
-use Rattle.std.proofs.lemmas.Option.{same_Some, none-some}
+use Rattle.std.proofs.lemmas.Option.{same_Some}
 use Rattle.std.specs.Prelude.{pos, slice_get}
 use Rattle.std.specs.List.{AllByRecursion}
 use Rattle.sk_clock.specs.Clock.{lengths}
@@ -15,7 +15,7 @@ use Rattle.sk_least.specs.declared.stretch.Stop.{Stop}
 use Rattle.sk_least.specs.declared.stretch.Stop.TheVariants.{Last, Partition, Bent}
 use Rattle.sk_least.proofs.Covers.{joined, Longest, AreLongest, longest_is_shortest}
 
-at_drop : (xs : List Sight) (n : ℕ) (o : Sight) (rest : List Sight) → drop n xs ≡ o ∷ rest → slice_get xs n ≡ Some o
+pub at_drop : (xs : List Sight) (n : ℕ) (o : Sight) (rest : List Sight) → drop n xs ≡ o ∷ rest → slice_get xs n ≡ Some o
 at_drop [] zero o rest e = absurd (cc)
 at_drop [] (suc n) o rest e = absurd (cc)
 at_drop (x ∷ xs) zero o rest e = ap Some (head x o xs rest e)
@@ -30,14 +30,14 @@ chain_more v first [] past s h k = (subst (λ (n : ℕ). IsLongestFrom v n s) (s
 chain_more v first (x ∷ xs) past s h k = (h.0, chain_more v x.past xs past s h.1 k)
 
 module _ (v : SearchView) where
-  abbrev runs : List Stretch → List (List Sight)
+  abbrev pub runs : List Stretch → List (List Sight)
   runs stretches = map (run_of v.all) stretches
 
   -- what a run that ends so is followed by
-  followed : (s : Stretch) (stop : Stop) → s.first < s.past → s.past ≤ length v.all → IsStop (lengths v.clock) (pos v.tolerance) v.all s stop → (rest : List Sight) → drop s.past v.all ≡ rest
+  pub followed : (s : Stretch) (stop : Stop) → s.first < s.past → s.past ≤ length v.all → IsStop (lengths v.clock) (pos v.tolerance) v.all s stop → (rest : List Sight) → drop s.past v.all ≡ rest
       → Longest (lengths v.clock) (pos v.tolerance) (run_of v.all s) rest
   followed s stop some within h [] e = tt
-  followed s Last some within h (o ∷ rest) e = absurd (none-some o (sym h ∙ at_drop v.all s.past o rest e))
+  followed s Last some within h (o ∷ rest) e = absurd (let l = ap length e in let d = length-drop s.past v.all in omega arith)
   followed s Partition some within h (o ∷ rest) e = λ stretch. h.2 (first_of (drop s.first v.all) refl (subst (λ (n : ℕ). 0 < n) (sym (length-drop s.first v.all)) (omega arith)) stretch)
     where
       same : o ≡ h.0

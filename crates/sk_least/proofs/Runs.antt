@@ -2,7 +2,7 @@
 use Rattle.std.proofs.Common.{◌≡◌, ℕ, suc, ◌+◌, ◌-◌, ◌*◌, ◌<◌, ◌≤◌, List, [], ◌∷◌, ◌++◌, length, map, take, drop, get_or, Option, Some, None, refl, sym, ap, subst, inl, inr, arith, ◌∙◌, length-append, length-drop}
 use Rattle.std.proofs.lemmas.Int.{ints}
 use Rattle.std.proofs.lemmas.List.{drop_more, take_more, take-append-drop, get_or-drop}
-use Rattle.std.proofs.lemmas.Option.{slice_get_read, slice_get_past, same_Some}
+use Rattle.std.proofs.lemmas.Option.{slice_get_read, same_Some}
 use Rattle.std.specs.Prelude.{ℤ, pos, ◌+ℤ◌, ◌-ℤ◌, ◌*ℤ◌, ◌≤ℤ◌, slice_get}
 use Rattle.std.specs.List.{AllByRecursion}
 use Rattle.sk_clock.specs.Clock.{lengths}
@@ -187,5 +187,5 @@ last_run v first past h n run m e =
       some = (let a = run.some in omega arith);
       within = omega arith;
       stretch = subst (λ (k : ℕ). IsStretch (lengths v.clock) (pos v.tolerance) (between_places v.all first k)) same run.stretch;
-      stops = slice_get_past v.all n (omega arith);
+      stops = e;
     }

@@ -1,10 +1,10 @@
 //! The runs of a shortest cover.
 
-ghost use Rattle.std.specs.Prelude.{◌≡◌, ◌*◌, ◌^◌, ◌≤◌, IfOk, pos, ◌≤ℤ◌};
+ghost use Rattle.std.specs.Prelude.{◌≡◌, ◌*◌, ◌^◌, ◌≤◌, All, IfOk, length, pos, ◌≤ℤ◌};
 ghost use Rattle.sk_clock.specs.Clock.{total, lengths};
 ghost use Rattle.sk_publishing.specs.Row.{AreRows};
 ghost use Rattle.sk_publishing.specs.Terms.{sights};
-ghost use Rattle.sk_least.specs.Answer.{AreLeast};
+ghost use Rattle.sk_least.specs.Answer.{AreLeast, IsWithin};
 
 use crate::search::Search;
 use crate::stretch::Stretch;
@@ -41,7 +41,8 @@ pub fn least(
     requires from { pos 1000 ≤ℤ tolerance.units }
     requires to { tolerance.units ≤ℤ pos (60 * 10 ^ 12) }
     // The runs of a shortest cover, and why each of them ends.
-    ensures { IfOk result (AreLeast (lengths clock.now) tolerance.units (sights observations.now)) }
+    ensures cover { IfOk result (AreLeast (lengths clock.now) tolerance.units (sights observations.now)) }
+    ensures within { IfOk result (All (IsWithin (length observations.now))) }
 {
     let search = Search::new(alloc, clock, observations, units(tolerance))?;
     let stretches = search.runs(alloc)?;

@@ -14,5 +14,5 @@ mod stretch;
 mod tests;
 
 pub use cover::least;
-pub use laws::no_fewer_lines;
+pub use laws::{no_fewer_lines, no_fewer_segments, one_answer};
 pub use stretch::{Stop, Stretch};

@@ -5,7 +5,7 @@ use Rattle.sk_status.specs.declared.status.DocumentKind.{DocumentKind}
 use Rattle.sk_status.specs.declared.status.DocumentKind.TheVariants.{Leap, Kernel}
 use Rattle.sk_status.specs.declared.status.FileKind.TheVariants.{Document, Observations}
 use Rattle.sk_words.specs.declared.tables.Command.{Command}
-use Rattle.sk_words.specs.declared.tables.Command.TheVariants.{Publish, Residuals, Normal, Convert, Sample, Invert}
+use Rattle.sk_words.specs.declared.tables.Command.TheVariants.{Publish, Residuals, Normal, Convert, Sample, Invert, Least}
 use Rattle.sk_words.specs.declared.tables.OptionName.TheVariants as opt
 use Rattle.sk_words.specs.Asked.{Request}
 use Rattle.sk_words.specs.Request.{Options, text_or}
@@ -15,7 +15,7 @@ use Rattle.sk_words.specs.Topics.{topic_of}
 use Rattle.sk_outcome.specs.Stage.{Stage, ◌>>=◌, gives}
 use Rattle.sk_outcome.specs.Seen.{Source}
 use Rattle.sk_outcome.specs.Files.{reads, judged, DocOf, refused_by, document, leap_meaning, leap_named, leap_file, kernel_document, kernel_meaning, kernel_file, observed, observation_file, OpenedRead, InputsRead, opened_read, inputs_read, sc_of}
-use Rattle.sk_outcome.specs.Outcome.{requested, commanded, told_or, outcome, outcome_of, publish_of, residuals_of, normal_of, convert_of, sample_of, invert_of}
+use Rattle.sk_outcome.specs.Outcome.{requested, commanded, told_or, outcome, outcome_of, publish_of, residuals_of, normal_of, convert_of, sample_of, invert_of, least_of}
 use Rattle.sk_outcome.specs.Sample.{made_inputs}
 use Rattle.sk_leap.specs.declared.pair.LeapPair.{LeapPair}
 use Rattle.sk_outcome.proofs.Moves.{Follows, then_follows, reads_follow, no_reading}
@@ -82,6 +82,7 @@ command_follows Normal options = then_follows (λ s. kernel_document s options) 
 command_follows Convert options = then_follows (λ s. opened_read s options) (λ s opened. convert_of options opened) (opened_follows options) (λ opened. no_reading (convert_of options opened))
 command_follows Sample options = no_reading (made_inputs options >>= sample_of options)
 command_follows Invert options = then_follows (λ s. opened_read s options) (λ s opened. invert_of options opened) (opened_follows options) (λ opened. no_reading (invert_of options opened))
+command_follows Least options = then_follows (λ s. inputs_read s options) (λ s inputs. least_of options inputs) (inputs_follow options) (λ inputs. no_reading (least_of options inputs))
 
 commanded_follows : (words : List (List ℕ)) → Follows (λ s. commanded words s)
 commanded_follows words =

@@ -5,3 +5,4 @@ pub mod Additions
 pub mod Sampled
 pub mod TimeWords
 pub mod Telling
+pub mod Runs

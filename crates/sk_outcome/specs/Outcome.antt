@@ -27,8 +27,9 @@ use Rattle.sk_audit.specs.declared.verdict.AuditFault.{AuditFault}
 use Rattle.sk_audit.specs.declared.verdict.Verdict.TheVariants.{Yes, No}
 use Rattle.sk_excerpt.specs.Excerpt as ex
 use Rattle.sk_least.specs.Answer as cover
+use Rattle.sk_least.specs.declared.stretch.Stretch.{Stretch}
 use Rattle.sk_words.specs.declared.tables.Command.{Command}
-use Rattle.sk_words.specs.declared.tables.Command.TheVariants.{Publish, Residuals, Normal, Convert, Sample, Invert}
+use Rattle.sk_words.specs.declared.tables.Command.TheVariants.{Publish, Residuals, Normal, Convert, Sample, Invert, Least}
 use Rattle.sk_status.specs.declared.status.Status.{Status}
 use Rattle.sk_status.specs.declared.status.Status.TheVariants.{WordsRefused, ObservationRefused, NotPublished, TimeRefused, AuditNo, ExcerptRefused, NoMemory}
 use Rattle.sk_status.specs.declared.status.DocumentKind.TheVariants.{New, Over}
@@ -229,11 +230,19 @@ excerpt source options = do
   doc ← cut_out options kernel
   gives (canonical_text doc)
 
+-- the fewest lines that meet the observations
+abbrev pub ShortestCover : Options → InputsRead → List Stretch → Type 0
+ShortestCover options inputs = cover.AreLeast (lengths inputs.kernel.clock) (settings_of options).tolerance.units (sights inputs.observations)
+
+abbrev pub least_of : Options → InputsRead → Stage (List ℕ)
+least_of options inputs = do
+  stretches ← some (ShortestCover options inputs)
+  gives (least_text inputs.observations stretches)
+
 abbrev pub least : Source → Options → Stage (List ℕ)
 least source options = do
   inputs ← inputs_read source options
-  stretches ← some (cover.AreLeast (lengths inputs.kernel.clock) (settings_of options).tolerance.units (sights inputs.observations))
-  gives (least_text inputs.observations stretches)
+  least_of options inputs
 
 -- ---- the whole
 
@@ -244,6 +253,7 @@ outcome_of Normal = normal
 outcome_of Convert = convert
 outcome_of Sample = sample
 outcome_of Invert = invert
+outcome_of Least = least
 
 -- the words
 abbrev pub requested : List (List ℕ) → Stage Request

@@ -13,5 +13,6 @@ four_parts old p q r s a b d e h i j k = two_parts old p s a (b ++ (d ++ e)) h (
 pub five_parts : (old p q r s t a b d e f : List ℕ) → p ≡ old ++ a → q ≡ p ++ b → r ≡ q ++ d → s ≡ r ++ e → t ≡ s ++ f → t ≡ old ++ (a ++ (b ++ (d ++ (e ++ f))))
 five_parts old p q r s t a b d e f h i j k l = two_parts old p t a (b ++ (d ++ (e ++ f))) h (four_parts p q r s t b d e f i j k l)
 
-pub six_parts : (old p q r s t u a b d e f g : List ℕ) → p ≡ old ++ a → q ≡ p ++ b → r ≡ q ++ d → s ≡ r ++ e → t ≡ s ++ f → u ≡ t ++ g → u ≡ old ++ (a ++ (b ++ (d ++ (e ++ (f ++ g)))))
+pub six_parts : (old p q r s t u a b d e f g : List ℕ) → p ≡ old ++ a → q ≡ p ++ b → r ≡ q ++ d → s ≡ r ++ e → t ≡ s ++ f → u ≡ t ++ g
+    → u ≡ old ++ (a ++ (b ++ (d ++ (e ++ (f ++ g)))))
 six_parts old p q r s t u a b d e f g h i j k l m = two_parts old p u a (b ++ (d ++ (e ++ (f ++ g)))) h (five_parts p q r s t u b d e f g i j k l m)

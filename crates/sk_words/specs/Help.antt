@@ -4,7 +4,7 @@ use Rattle.std.specs.List.{flat_map, list_any}
 use Rattle.std.specs.Str.{bytes_eq}
 use Rattle.sk_words.specs.declared.limits.Numbers.{Numbers}
 use Rattle.sk_words.specs.declared.tables.Command.{Command}
-use Rattle.sk_words.specs.declared.tables.Command.TheVariants.{Publish, Residuals, Normal, Convert, Sample, Invert}
+use Rattle.sk_words.specs.declared.tables.Command.TheVariants.{Publish, Residuals, Normal, Convert, Sample, Invert, Least}
 use Rattle.sk_words.specs.declared.tables.OptionName.{OptionName}
 use Rattle.sk_words.specs.declared.tables.OptionName.TheVariants as opt
 use Rattle.sk_words.specs.declared.topic.Topic.{Topic}
@@ -110,6 +110,7 @@ writes Normal = codes "the kernel in canonical layout"
 writes Convert = codes "the tick, TDT and UTC of one clock reading"
 writes Sample = codes "what publishing observations made from a seed comes to"
 writes Invert = codes "the last clock reading that is not after one time"
+writes Least = codes "how few lines can meet the observations, and why no fewer"
 
 abbrev pub remarks : Command → List (List ℕ)
 remarks Publish = codes "Writes the kernel with one block more. Write it to a new file: > empties a file" ∷ codes "before it is read. docs/DAILY.md tells how to choose the options." ∷ []
@@ -118,6 +119,7 @@ remarks Normal = codes "Only the grammar of the file is checked." ∷ []
 remarks Convert = codes "Writes one line: clock reading, encoded tick, TDT in seconds past J2000, UTC." ∷ codes "The UTC is - where --leap is not given." ∷ []
 remarks Sample = codes "Writes one line: sample, seed, count, new triples, the greatest difference in ps" ∷ codes "and the ticks of the last triple. It reads no file: docs/SAMPLE.md tells what is" ∷ codes "made. The slip has its default; nothing is held or dropped." ∷ []
 remarks Invert = codes "Writes one line: clock reading, encoded tick and its TDT in seconds past J2000." ∷ []
+remarks Least = codes "Writes least;RUNS, and for each run of one line its first id, its last id, and" ∷ codes "last, partition or bent:A:B:C:D, which are records that no one line meets." ∷ []
 
 -- the options that a command needs
 abbrev pub needed_text : Command → List ℕ

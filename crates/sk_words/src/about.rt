@@ -88,6 +88,11 @@ static INVERT_REMARKS: [&str; 1] = [
     "Writes one line: clock reading, encoded tick and its TDT in seconds past J2000.",
 ];
 
+static LEAST_REMARKS: [&str; 2] = [
+    "Writes least;RUNS, and for each run of one line its first id, its last id, and",
+    "last, partition or bent:A:B:C:D, which are records that no one line meets.",
+];
+
 impl Command {
     /// What the command writes.
     pub fn writes(self) -> &'static str
@@ -100,6 +105,7 @@ impl Command {
             Command::Convert => "the tick, TDT and UTC of one clock reading",
             Command::Sample => "what publishing observations made from a seed comes to",
             Command::Invert => "the last clock reading that is not after one time",
+            Command::Least => "how few lines can meet the observations, and why no fewer",
         }
     }
 
@@ -114,6 +120,7 @@ impl Command {
             Command::Convert => CONVERT_REMARKS.as_slice(),
             Command::Sample => SAMPLE_REMARKS.as_slice(),
             Command::Invert => INVERT_REMARKS.as_slice(),
+            Command::Least => LEAST_REMARKS.as_slice(),
         }
     }
 }

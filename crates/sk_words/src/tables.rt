@@ -38,15 +38,17 @@ pub enum Command {
     Convert,
     Sample,
     Invert,
+    Least,
 }
 
-static COMMANDS: [Command; 6] = [
+static COMMANDS: [Command; 7] = [
     Command::Publish,
     Command::Residuals,
     Command::Normal,
     Command::Convert,
     Command::Sample,
     Command::Invert,
+    Command::Least,
 ];
 
 static OPTIONS: [OptionName; 19] = [
@@ -128,6 +130,16 @@ static INVERT_USES: [OptionName; 4] = [
     OptionName::Time,
 ];
 
+static LEAST_NEEDS: [OptionName; 3] = [OptionName::Kernel, OptionName::Obs, OptionName::Sc];
+
+static LEAST_USES: [OptionName; 5] = [
+    OptionName::Leap,
+    OptionName::Kernel,
+    OptionName::Obs,
+    OptionName::Sc,
+    OptionName::TolNs,
+];
+
 impl OptionName {
     /// All options, in the order of their table.
     pub fn all() -> &'static [OptionName]
@@ -183,6 +195,7 @@ impl Command {
             Command::Convert => "convert",
             Command::Sample => "sample",
             Command::Invert => "invert",
+            Command::Least => "least",
         }
     }
 
@@ -197,6 +210,7 @@ impl Command {
             Command::Convert => CONVERT_NEEDS.as_slice(),
             Command::Sample => SAMPLE_NEEDS.as_slice(),
             Command::Invert => INVERT_NEEDS.as_slice(),
+            Command::Least => LEAST_NEEDS.as_slice(),
         }
     }
 
@@ -211,6 +225,7 @@ impl Command {
             Command::Convert => CONVERT_USES.as_slice(),
             Command::Sample => SAMPLE_USES.as_slice(),
             Command::Invert => INVERT_USES.as_slice(),
+            Command::Least => LEAST_USES.as_slice(),
         }
     }
 

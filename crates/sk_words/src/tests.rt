@@ -116,7 +116,7 @@ fn refusal(alloc: Global, words: &[&str]) -> (&'static str, &'static str) {
 #[test]
 fn words_are_judged_in_the_order_of_the_tables(rt: HostRuntime) {
     let alloc = rt.alloc();
-    let table: [(&[&str], &str, &str); 11] = [
+    let table: [(&[&str], &str, &str); 13] = [
         (&["station", "normal", "--kernel="], "OutOfRange", "kernel"),
         (&["station", "normal"], "NeedOption", "kernel"),
         (&["station", "frob", "--kernel=k"], "UnknownCommand", ""),
@@ -158,6 +158,16 @@ fn words_are_judged_in_the_order_of_the_tables(rt: HostRuntime) {
         ),
         (
             &["station", "invert", "--time=", "--sc=99", "--kernel=k"],
+            "Taken",
+            "",
+        ),
+        (
+            &["station", "least", "--sc=99", "--kernel=k"],
+            "NeedOption",
+            "obs",
+        ),
+        (
+            &["station", "least", "--sc=99", "--kernel=k", "--obs=o"],
             "Taken",
             "",
         ),

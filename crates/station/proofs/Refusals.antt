@@ -4,7 +4,7 @@ use Rattle.std.specs.Prelude.{codes, unwrap_or, IsSomeAnd}
 use Rattle.sk_status.specs.declared.status.Status.{Status}
 use Rattle.sk_status.specs.declared.status.Status.TheVariants.{Done, WordsRefused, LeapRefused, KernelRefused, ObservationRefused, NotPublished, WriteFault, NoMemory, TimeRefused}
 use Rattle.sk_words.specs.declared.tables.Command.{Command}
-use Rattle.sk_words.specs.declared.tables.Command.TheVariants.{Publish, Residuals, Normal, Convert, Sample, Invert}
+use Rattle.sk_words.specs.declared.tables.Command.TheVariants.{Publish, Residuals, Normal, Convert, Sample, Invert, Least}
 use Rattle.sk_status.specs.declared.status.FileKind.{FileKind}
 use Rattle.sk_status.specs.declared.status.FileKind.TheVariants.{Document, Observations}
 use Rattle.sk_status.specs.declared.status.DocumentKind.{DocumentKind}
@@ -59,10 +59,11 @@ use Rattle.sk_inverse.specs.Inverse.{IsTickOf, inverse_checks}
 use Rattle.sk_sample.specs.Sample.{kernel_text, spacecraft, observations_text}
 use Rattle.sk_inverse.specs.declared.fault.InverseFault.{InverseFault}
 use Rattle.sk_inverse.specs.declared.fault.InverseFault.TheVariants as inverse_fault
-use Rattle.sk_outcome.specs.Outcome.{requested, commanded, told_or, outcome, outcome_of, publish, publish_of, chain_of, residuals, residuals_of, normal, normal_of, convert, convert_of, converted, sample, sample_of, sampled, invert, invert_of, said, ticked, told, TimeOf, status_of_time, clock_tick, TickOf, covered, tabled, all_covered, status_of_report}
+use Rattle.sk_outcome.specs.Outcome.{requested, commanded, told_or, outcome, outcome_of, publish, publish_of, chain_of, residuals, residuals_of, normal, normal_of, convert, convert_of, converted, sample, sample_of, sampled, invert, invert_of, said, ticked, told, TimeOf, status_of_time, clock_tick, TickOf, covered, tabled, all_covered, status_of_report, least, least_of, ShortestCover}
 use Rattle.sk_outcome.specs.Publishing.{after_chain, after_rows}
-use Rattle.sk_outcome.specs.Output.{settings_of, plain_table, new_kernel, published_doc, tick_fields, time_by, line_of}
+use Rattle.sk_outcome.specs.Output.{settings_of, plain_table, new_kernel, published_doc, tick_fields, time_by, line_of, least_text}
 use Rattle.sk_outcome.specs.Sample.{made_kernel, made_observations, made_inputs, sample_line, seed_of, count_of}
+use Rattle.sk_least.specs.declared.stretch.Stretch.{Stretch}
 use Rattle.sk_outcome.specs.Time.{IsUtcWord}
 use Rattle.sk_outcome.proofs.Follows.{kernel_after, rows_after}
 use Rattle.sk_outcome.specs.Ending.{Ends}
@@ -354,6 +355,12 @@ always_invert source options =
     (always_judged (Judges (inverse_checks opened.kernel.triples (time *ℤ pos (10 ^ 6))) (IsTickOf opened.kernel.triples (time *ℤ pos (10 ^ 6)))) status_of_time (λ fault h. ticked_stands fault))
     (always_told opened.kernel)))
 
+always_least : (source : Source) (options : Options) → Always (least source options)
+always_least source options =
+    always_then (inputs_read source options) (least_of options) (always_inputs source options)
+    (λ inputs. always_then (some (ShortestCover options inputs)) (λ (stretches : List Stretch). gives (least_text inputs.observations stretches)) (λ status h. absurd h)
+    (λ stretches. always_gives (least_text inputs.observations stretches)))
+
 always_command : (command : Command) (source : Source) (options : Options) → Always (outcome_of command source options)
 always_command Publish source options = always_publish source options
 always_command Residuals source options = always_residuals source options
@@ -361,6 +368,7 @@ always_command Normal source options = always_normal source options
 always_command Convert source options = always_convert source options
 always_command Sample source options = always_sample source options
 always_command Invert source options = always_invert source options
+always_command Least source options = always_least source options
 
 always_commanded : (words : List (List ℕ)) (source : Source) → Always (commanded words source)
 always_commanded words source =

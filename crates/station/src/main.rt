@@ -9,6 +9,8 @@ mod inputs;
 mod invert_tests;
 mod made;
 #[cfg(test)]
+mod least_tests;
+#[cfg(test)]
 mod publish_tests;
 mod reading;
 mod start;

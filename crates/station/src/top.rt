@@ -22,6 +22,7 @@ use crate::made::made_inputs;
 use sk_checks::NoMemory;
 use sk_commands::convert::convert;
 use sk_commands::invert::invert;
+use sk_commands::least::least;
 use sk_commands::normal::normal;
 use sk_commands::publish::publish;
 use sk_commands::residuals::residuals;
@@ -59,6 +60,7 @@ fn command_text<D: Depot>(
         Command::Convert => convert(alloc, request, read_opened(alloc, depot, request)?),
         Command::Sample => sample(alloc, request, made_inputs(alloc, request)?),
         Command::Invert => invert(alloc, request, read_opened(alloc, depot, request)?),
+        Command::Least => least(alloc, request, read_inputs(alloc, depot, request)?),
     }
 }
 
