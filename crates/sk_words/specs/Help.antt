@@ -139,7 +139,7 @@ abbrev pub opening_rows : List ℕ
 opening_rows = codes "station " ++ (version ++ (codes ": " ++ lines opening))
 
 unfoldable pub closing : List (List ℕ)
-closing = [] ∷ codes "Status: 0 done, 2 words, 3 leap seconds kernel, 4 clock kernel, 5 observations," ∷ codes "6 not published, 7 reading, 8 writing, 9 memory, 10 time. A refusal is one line" ∷ codes "on standard error; docs/REFUSALS.md tells what each means and what to do." ∷ []
+closing = [] ∷ codes "Status: 0 done, 2 words, 3 leap seconds kernel, 4 clock kernel, 5 observations," ∷ codes "6 not published, 7 reading, 8 writing, 9 memory, 10 time. A refusal is told" ∷ codes "on standard error; docs/REFUSALS.md tells what each means and what to do." ∷ []
 
 abbrev pub program_page : List ℕ
 program_page = opening_rows ++ (flat_map command_rows all_commands ++ (codes "\nOptions\n" ++ (flat_map shown_rows all_options ++ lines closing)))

@@ -27,7 +27,7 @@ static OPENING: [&str; 6] = [
 static CLOSING: [&str; 4] = [
     "",
     "Status: 0 done, 2 words, 3 leap seconds kernel, 4 clock kernel, 5 observations,",
-    "6 not published, 7 reading, 8 writing, 9 memory, 10 time. A refusal is one line",
+    "6 not published, 7 reading, 8 writing, 9 memory, 10 time. A refusal is told",
     "on standard error; docs/REFUSALS.md tells what each means and what to do.",
 ];
 

@@ -3,6 +3,9 @@
 
 mod about;
 mod fault;
+mod given;
+#[cfg(test)]
+mod given_tests;
 mod help;
 #[cfg(test)]
 mod help_tests;
@@ -18,8 +21,10 @@ mod tests;
 mod topic;
 
 pub use fault::{WordsFault, WordsStop};
+pub use given::{GivenWords, given_in, station_words};
 pub use help::page;
 pub use laws::ids_are_calendar_times;
+pub use matched::{MatchStop, refusal_text};
 pub use request::{Request, requested};
 pub use tables::{Command, OptionName};
 pub use topic::{Topic, topic_of};

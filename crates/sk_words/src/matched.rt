@@ -9,7 +9,7 @@ use sk_checks::NoMemory;
 use std::alloc::Global;
 
 /// Why the words give no matches.
-#[derive(Clone, Copy)]
+#[derive(Clone, Copy, Debug)]
 pub enum MatchStop {
     NotTaken,
     NoMemory,
@@ -85,5 +85,23 @@ pub fn matches_in<'a>(alloc: Global, words: &'a [&'a str]) -> Result<ArgMatches<
     match command.try_get_matches_from(words) {
         Ok(matches) => Ok(matches),
         Err(error) => Err(stop_of(error)),
+    }
+}
+
+/// What clap says of words that it does not take; an empty text where it takes them, and where it would show a help of
+/// its own.
+pub fn refusal_text<'a>(alloc: Global, words: &'a [&'a str]) -> Result<String, NoMemory> {
+    let command = station_command(alloc)?;
+    match command.try_get_matches_from(words) {
+        Ok(_) => Ok(String::new(alloc)),
+        Err(error) => said_by(alloc, &error),
+    }
+}
+
+fn said_by(alloc: Global, error: &Error) -> Result<String, NoMemory> {
+    match error.kind() {
+        ErrorKind::OutOfMemory => Err(NoMemory),
+        ErrorKind::DisplayHelp => Ok(String::new(alloc)),
+        _ => format!(in alloc; "{error}"),
     }
 }

@@ -34,7 +34,7 @@ impl<'a> Model for Request<'a> {
 }
 
 /// The text that the words give an option.
-fn given_text<'a>(matches: &ArgMatches<'a>, name: OptionName) -> Option<&'a str>
+pub fn given_text<'a>(matches: &ArgMatches<'a>, name: OptionName) -> Option<&'a str>
     ensures { option_map (λ s. s.now) result ≡ option_text (name_of name) (rows_in matches.now) }
 {
     matches.get_str(name.word())
@@ -51,7 +51,7 @@ fn text_of<'a>(matches: &ArgMatches<'a>, name: OptionName) -> Option<&'a str>
 }
 
 /// The word that stands for the command.
-fn command_word<'a>(matches: &ArgMatches<'a>) -> Option<&'a str>
+pub fn command_word<'a>(matches: &ArgMatches<'a>) -> Option<&'a str>
     ensures { option_map (λ s. s.now) result ≡ command_text (rows_in matches.now) }
 {
     matches.get_str("command")

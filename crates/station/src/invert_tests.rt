@@ -1,6 +1,7 @@
 use super::*;
 use crate::tests::{
-    CLOCK, EARLY, HEADER, KERNEL, LEAPS, SHAPE, SPAN, SYSTEM, TRIPLE, files, output, texts,
+    CLOCK, EARLY, HEADER, KERNEL, LEAPS, SHAPE, SPAN, SYSTEM, TRIPLE, files, first_line, output,
+    texts,
 };
 use sk_edge::{MemoryDepot, MemorySink};
 use std::alloc::{AllocError, Global};
@@ -155,7 +156,7 @@ fn times_are_refused(rt: HostRuntime) -> Result<(), Fail> {
         let mut out = output(alloc, Vec::new(alloc))?;
         let mut notes = output(alloc, Vec::new(alloc))?;
         let status = run(alloc, &words, &mut depot, &mut out, &mut notes);
-        assert_eq!(rt; notes.written(), line.as_bytes());
+        assert_eq!(rt; first_line(notes.written()), line.as_bytes());
         assert_eq!(rt; status.code(), code, "{line}");
         assert!(rt; out.written().is_empty());
     }
@@ -189,7 +190,7 @@ fn each_call_of_the_depot_fails(rt: HostRuntime) -> Result<(), Fail> {
             _ => (10, "refused;10;Utc;NotInDay\n"),
         };
         assert_eq!(rt; status.code(), code, "at {call}");
-        assert_eq!(rt; notes.written(), line.as_bytes());
+        assert_eq!(rt; first_line(notes.written()), line.as_bytes());
         assert!(rt; out.written().is_empty(), "at {call}");
     }
     Ok(())

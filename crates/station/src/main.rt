@@ -13,9 +13,11 @@ mod least_tests;
 #[cfg(test)]
 mod publish_tests;
 mod reading;
-mod start;
 #[cfg(test)]
 mod sample_tests;
+#[cfg(test)]
+mod slips_tests;
+mod start;
 #[cfg(test)]
 mod tests;
 mod top;

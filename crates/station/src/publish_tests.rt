@@ -1,6 +1,6 @@
 use super::*;
 use crate::tests::{
-    CLOCK, HEADER, KERNEL, SHAPE, SPAN, SPANS, TRIPLE, files, leap_files_of, texts,
+    CLOCK, HEADER, KERNEL, SHAPE, SPAN, SPANS, TRIPLE, files, first_line, leap_files_of, texts,
 };
 use sk_edge::{MemoryDepot, MemorySink};
 use std::alloc::{AllocError, Global};
@@ -81,7 +81,7 @@ fn each_call_of_the_depot_fails(rt: HostRuntime) -> Result<(), Fail> {
         };
         let written: &[u8] = if code == 0 { text.as_slice() } else { &[] };
         assert_eq!(rt; status.code(), code, "at {call}");
-        assert_eq!(rt; notes.written(), line.as_bytes());
+        assert_eq!(rt; first_line(notes.written()), line.as_bytes());
         assert_eq!(rt; out.written(), written);
     }
     Ok(())
@@ -165,7 +165,7 @@ fn kernels_are_published(rt: HostRuntime) -> Result<(), Fail> {
         let mut notes = wide_output(alloc, Vec::new(alloc))?;
         let status = run(alloc, &words, &mut depot, &mut out, &mut notes);
         let text = published(alloc, &parts, block)?;
-        assert_eq!(rt; notes.written(), line.as_bytes());
+        assert_eq!(rt; first_line(notes.written()), line.as_bytes());
         assert_eq!(rt; out.written(), text.as_slice());
         assert_eq!(rt; status.code(), code);
     }

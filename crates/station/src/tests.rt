@@ -69,6 +69,14 @@ pub fn files(
     Ok(files)
 }
 
+/// The line of a refusal: what was noted up to the first line feed.
+pub fn first_line(notes: &[u8]) -> &[u8] {
+    match notes.iter().position(|byte| *byte == b'\n') {
+        Some(place) => notes.get(..=place).unwrap_or(notes),
+        None => notes,
+    }
+}
+
 /// An output with room for 300 bytes, which takes ten bytes a write.
 pub fn output(alloc: Global, failing: Vec<u64>) -> Result<MemorySink, AllocError> {
     Ok(MemorySink::new(vec![in alloc; 10]?, failing, vec![in alloc; 0; 300]?))
@@ -111,7 +119,7 @@ fn words_are_refused_in_their_order(rt: HostRuntime) -> Result<(), Fail> {
         let mut notes = output(alloc, Vec::new(alloc))?;
         let status = run(alloc, &words, &mut depot, &mut out, &mut notes);
         assert_eq!(rt; status.code(), 2, "{line}");
-        assert_eq!(rt; notes.written(), line.as_bytes());
+        assert_eq!(rt; first_line(notes.written()), line.as_bytes());
         assert!(rt; out.written().is_empty(), "{line}");
     }
     Ok(())
@@ -158,7 +166,7 @@ fn residuals_of_a_plain_kernel(rt: HostRuntime) -> Result<(), Fail> {
         let mut out = output(alloc, Vec::new(alloc))?;
         let mut notes = output(alloc, Vec::new(alloc))?;
         let status = run(alloc, &words, &mut depot, &mut out, &mut notes);
-        assert_eq!(rt; notes.written(), line.as_bytes());
+        assert_eq!(rt; first_line(notes.written()), line.as_bytes());
         assert_eq!(rt; out.written(), text.as_bytes());
         assert_eq!(rt; status.code(), code);
     }
@@ -208,7 +216,7 @@ fn each_call_of_the_depot_fails(rt: HostRuntime) -> Result<(), Fail> {
             _ => (0, ""),
         };
         assert_eq!(rt; status.code(), code, "at {call}");
-        assert_eq!(rt; notes.written(), line.as_bytes());
+        assert_eq!(rt; first_line(notes.written()), line.as_bytes());
         assert_eq!(rt; out.written().is_empty(), code == 7, "at {call}");
     }
     Ok(())
@@ -307,7 +315,7 @@ fn a_kernel_that_is_cut(rt: HostRuntime) -> Result<(), Fail> {
         assert_eq!(rt; status.code(), code, "at {taken}");
         if 2 <= missing && missing <= 10 {
             assert_eq!(rt;
-                notes.written(),
+                first_line(notes.written()),
                 b"refused;4;Grammar;19;NoAssign\n".as_slice()
             );
         }
@@ -347,7 +355,7 @@ fn a_kernel_of_the_limit_and_one_byte_more(rt: HostRuntime) -> Result<(), Fail> 
         let mut notes = output(alloc, Vec::new(alloc))?;
         let status = run(alloc, &words, &mut depot, &mut out, &mut notes);
         assert_eq!(rt; status.code(), code, "of {length}");
-        assert_eq!(rt; notes.written(), line.as_bytes());
+        assert_eq!(rt; first_line(notes.written()), line.as_bytes());
         assert_eq!(rt; out.written().len(), written);
     }
     Ok(())
@@ -371,7 +379,7 @@ fn a_file_is_read_on_behind_its_refused_line(rt: HostRuntime) -> Result<(), Fail
             _ => (4, "refused;4;Grammar;2;NoAssign\n"),
         };
         assert_eq!(rt; status.code(), code, "at {call}");
-        assert_eq!(rt; notes.written(), line.as_bytes());
+        assert_eq!(rt; first_line(notes.written()), line.as_bytes());
     }
     Ok(())
 }
@@ -390,7 +398,10 @@ fn a_file_that_is_too_long_behind_its_refused_line(rt: HostRuntime) -> Result<()
     let mut notes = output(alloc, Vec::new(alloc))?;
     let status = run(alloc, &words, &mut depot, &mut out, &mut notes);
     assert_eq!(rt; status.code(), 4);
-    assert_eq!(rt; notes.written(), b"refused;4;TooLong\n".as_slice());
+    assert_eq!(rt;
+        first_line(notes.written()),
+        b"refused;4;TooLong\n".as_slice()
+    );
     Ok(())
 }
 
@@ -406,7 +417,10 @@ fn files_and_streams_of_the_host(rt: HostRuntime) -> Result<(), Fail> {
     let mut notes = output(alloc, Vec::new(alloc))?;
     let status = run(alloc, &words, &mut depot, &mut out, &mut notes);
     assert_eq!(rt; status.code(), 7);
-    assert_eq!(rt; notes.written(), b"refused;7;Kernel\n".as_slice());
+    assert_eq!(rt;
+        first_line(notes.written()),
+        b"refused;7;Kernel\n".as_slice()
+    );
     Ok(())
 }
 
@@ -441,7 +455,7 @@ fn normal_of_a_kernel(rt: HostRuntime) -> Result<(), Fail> {
         let mut out = output(alloc, Vec::new(alloc))?;
         let mut notes = output(alloc, Vec::new(alloc))?;
         let status = run(alloc, &words, &mut depot, &mut out, &mut notes);
-        assert_eq!(rt; notes.written(), line.as_bytes());
+        assert_eq!(rt; first_line(notes.written()), line.as_bytes());
         assert_eq!(rt; out.written(), text.as_bytes());
         assert_eq!(rt; status.code(), code);
     }
@@ -505,7 +519,7 @@ fn clock_words_are_converted(rt: HostRuntime) -> Result<(), Fail> {
         let mut out = output(alloc, Vec::new(alloc))?;
         let mut notes = output(alloc, Vec::new(alloc))?;
         let status = run(alloc, &words, &mut depot, &mut out, &mut notes);
-        assert_eq!(rt; notes.written(), line.as_bytes());
+        assert_eq!(rt; first_line(notes.written()), line.as_bytes());
         assert_eq!(rt; out.written(), text.as_bytes());
         assert_eq!(rt; status.code(), code);
     }

@@ -1,6 +1,6 @@
 //! The top call.
 
-ghost use Rattle.std.specs.Prelude.{◌≡◌, ◌⊎◌, List, ℕ, Option, Some, Result, Ok, Err, map, string_bytes, IfOk, IfErr, IsSome, All, codes, false, ◌∷◌};
+ghost use Rattle.std.specs.Prelude.{◌≡◌, ◌⊎◌, List, ℕ, Option, Some, Result, Ok, Err, map, string_bytes, IfErr, IsSome, All, codes, false, ◌∷◌};
 ghost use Rattle.std.specs.Io.KnownBytes.{Appends};
 ghost use Rattle.sk_edge.specs.Causes.{Rose};
 ghost use Rattle.sk_words.specs.Words.{is_taken};
@@ -12,14 +12,15 @@ ghost use Rattle.sk_outcome.specs.Seen.{seen_by, Stays};
 ghost use Rattle.sk_outcome.specs.Outcome.{commanded, outcome, outcome_of, requested as requested_by};
 ghost use Rattle.sk_outcome.specs.Ending.{Ends, HasEnded};
 ghost use Rattle.sk_headline.specs.Headline.{AreHeld, IsPublished};
-ghost use Rattle.sk_status.specs.Written.{written_by, IsNoted};
+ghost use Rattle.sk_status.specs.Written.{written_by};
+ghost use Rattle.sk_advice.specs.Told.{IsTold};
 ghost use Rattle.sk_status.specs.Notes.{CarriesNoMemory};
 ghost use Rattle.sk_status.specs.declared.status.Status.{Status as Ended};
 
 use crate::files::kernel_document;
 use crate::inputs::{read_inputs, read_opened};
 use crate::made::made_inputs;
-use sk_checks::NoMemory;
+use sk_advice::write_told;
 use sk_commands::convert::convert;
 use sk_commands::invert::invert;
 use sk_commands::least::least;
@@ -28,21 +29,11 @@ use sk_commands::publish::publish;
 use sk_commands::residuals::residuals;
 use sk_commands::sample::sample;
 use sk_edge::{Depot, Failed, Sink, write_all};
-use sk_status::{Status, write_note};
-use sk_words::{Command, Request, Topic, WordsFault, WordsStop, page, requested, topic_of};
+use sk_status::Status;
+use sk_words::{
+    Command, Request, Topic, WordsFault, WordsStop, page, requested, station_words, topic_of,
+};
 use std::alloc::Global;
-
-/// The words behind a word that stands for the program's name.
-fn station_words<'a>(alloc: Global, words: &'a [String]) -> Result<Vec<&'a str>, NoMemory>
-    ensures { IfOk result (λ v. map (λ w. w.now) v.items ≡ codes "station" ∷ map string_bytes words.entry.now) }
-{
-    let mut all = Vec::new(alloc);
-    all.push("station")?;
-    for word in words {
-        all.push(word.as_str())?;
-    }
-    Ok(all)
-}
 
 /// What the command writes.
 fn command_text<D: Depot>(
@@ -178,10 +169,11 @@ pub fn run<D: Depot, S: Sink, N: Sink>(
     // Clap takes no words that are refused as not taken.
     ensures not_taken { result ≡ Status.WordsRefused WordsFault.NotTaken → is_taken (codes "station" ∷ map string_bytes words.now) ≡ false }
 
-    // Status 0 notes nothing, and each other status its line.
-    ensures noted { IsNoted (written_by N.written N.faults notes.old notes.new) result }
+    // Status 0 notes nothing, and each other status its line; behind it follow sentences for people, each of which begins
+    // with two blanks.
+    ensures noted { IsTold (codes "station" ∷ map string_bytes words.now) (written_by N.written N.faults notes.old notes.new) result }
 {
     let status = ended(alloc, words, depot, out);
-    write_note(notes, status);
+    write_told(alloc, notes, words, status);
     status
 }

@@ -1,0 +1,6 @@
+pub mod Sentences
+pub mod Causes
+pub mod Cures
+pub mod Subjects
+pub mod Advice
+pub mod Told

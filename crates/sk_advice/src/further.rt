@@ -1,0 +1,172 @@
+//! Further lines: what there is to choose from, more of the cure, and how to find the record.
+
+ghost use Rattle.std.specs.Prelude.{◌≡◌, ◌++◌, IfOk, OnOk, string_bytes};
+ghost use Rattle.sk_words.specs.Request.{numbers_of};
+ghost use Rattle.sk_words.specs.Help.{given_as};
+ghost use Rattle.sk_advice.specs.Advice.{commands_text, further_of, further_of_fit, further_of_observation, further_of_record, further_of_words, hint_at as hint_at_place, hint_of as hint_of_subject, numbers_line as numbers_line_of, option_line as option_line_of, range_line as range_line_of, record_hint as record_hint_of};
+
+use crate::naming::{push_counted, push_text};
+use crate::subject::{Place, Subject};
+use sk_checks::NoMemory;
+use sk_fit::FitFault;
+use sk_obs::ObsFault;
+use sk_status::{ObsStop, Status};
+use sk_words::{Command, OptionName, WordsFault};
+use std::alloc::Global;
+
+fn commands_line(alloc: Global) -> Result<Vec<u8>, NoMemory>
+    ensures { IfOk result (λ line. line.items ≡ commands_text) }
+{
+    let mut line = Vec::new(alloc);
+    push_text(&mut line, "the commands are")?;
+    for command in Command::all() {
+        push_text(&mut line, " ")?;
+        push_text(&mut line, command.word())?;
+    }
+    Ok(line)
+}
+
+/// Appends an option and what stands for its value.
+fn push_given_as(line: &mut Vec<u8>, name: OptionName) -> Result<(), NoMemory>
+    ensures { OnOk result (line.new.items ≡ line.old.items ++ given_as name) }
+{
+    push_text(line, "--")?;
+    push_text(line, name.word())?;
+    line.push(b'=')?;
+    push_text(line, name.form())?;
+    Ok(())
+}
+
+fn option_line(alloc: Global, name: OptionName) -> Result<Vec<u8>, NoMemory>
+    ensures { IfOk result (λ line. line.items ≡ option_line_of name) }
+{
+    let mut line = Vec::new(alloc);
+    push_given_as(&mut line, name)?;
+    push_text(&mut line, ": ")?;
+    push_text(&mut line, name.about())?;
+    Ok(line)
+}
+
+fn numbers_text(alloc: Global, least: u64, greatest: u64) -> Result<String, NoMemory>
+    ensures { IfOk result (λ s. string_bytes s ≡ numbers_line_of least greatest) }
+{
+    format!(in alloc;
+        "a whole number from {least} to {greatest}, in digits alone, as 1000000: no point, exponent, _ or blank."
+    )
+}
+
+fn numbers_line(alloc: Global, least: u64, greatest: u64) -> Result<Vec<u8>, NoMemory>
+    ensures { IfOk result (λ line. line.items ≡ numbers_line_of least greatest) }
+{
+    let text = numbers_text(alloc, least, greatest)?;
+    let mut line = Vec::new(alloc);
+    push_text(&mut line, text.as_str())?;
+    Ok(line)
+}
+
+fn range_line(alloc: Global, name: OptionName) -> Result<Vec<u8>, NoMemory>
+    ensures { IfOk result (λ line. line.items ≡ range_line_of name (numbers_of name)) }
+{
+    match name.numbers() {
+        Some(numbers) => numbers_line(alloc, numbers.least, numbers.greatest),
+        None => option_line(alloc, name),
+    }
+}
+
+fn words_further(alloc: Global, fault: WordsFault) -> Result<Vec<u8>, NoMemory>
+    ensures { IfOk result (λ line. line.items ≡ further_of_words fault) }
+{
+    match fault {
+        WordsFault::NotTaken => Ok(Vec::new(alloc)),
+        WordsFault::UnknownCommand => commands_line(alloc),
+        WordsFault::NeedOption(name) => option_line(alloc, name),
+        WordsFault::OutOfRange(name) => range_line(alloc, name),
+    }
+}
+
+fn record_further(fault: ObsFault) -> &'static str
+    ensures { result.now ≡ further_of_record fault }
+{
+    match fault {
+        ObsFault::Header => {
+            "Is it UTF-16 (save it as UTF-8), is it empty, or is there no header, or a line before it?"
+        }
+        ObsFault::TimeForm(_) => {
+            "no offset as +00:00, at most 12 decimals, and a day that its month has."
+        }
+        _ => "",
+    }
+}
+
+fn observation_further(stop: ObsStop) -> &'static str
+    ensures { result.now ≡ further_of_observation stop }
+{
+    match stop {
+        ObsStop::Record(fault) => record_further(fault),
+        _ => "",
+    }
+}
+
+fn fit_further(fault: FitFault) -> &'static str
+    ensures { result.now ≡ further_of_fit fault }
+{
+    match fault {
+        FitFault::NoRate(_) => {
+            "look at it and the record before: station residuals by the old kernel, then sort -t';' -gk5."
+        }
+        _ => "",
+    }
+}
+
+fn fixed_line(alloc: Global, text: &str) -> Result<Vec<u8>, NoMemory>
+    ensures { IfOk result (λ line. line.items ≡ text.now) }
+{
+    let mut line = Vec::new(alloc);
+    push_text(&mut line, text)?;
+    Ok(line)
+}
+
+/// More of what there is to do where a run ends so; an empty line where there is no more.
+pub fn further_line(alloc: Global, status: Status) -> Result<Vec<u8>, NoMemory>
+    ensures { IfOk result (λ line. line.items ≡ further_of status) }
+{
+    match status {
+        Status::WordsRefused(fault) => words_further(alloc, fault),
+        Status::ObservationRefused(stop) => fixed_line(alloc, observation_further(stop)),
+        Status::NotPublished(fault) => fixed_line(alloc, fit_further(fault)),
+        _ => Ok(Vec::new(alloc)),
+    }
+}
+
+fn record_hint(alloc: Global, number: u32) -> Result<Vec<u8>, NoMemory>
+    ensures { IfOk result (λ line. line.items ≡ record_hint_of number) }
+{
+    let mut line = Vec::new(alloc);
+    push_counted(
+        alloc,
+        &mut line,
+        "Record 1 is the header: grep -n . FILE | sed -n ",
+        number,
+    )?;
+    push_text(&mut line, "p prints the record and its line number.")?;
+    Ok(line)
+}
+
+fn hint_at(alloc: Global, place: Place) -> Result<Vec<u8>, NoMemory>
+    ensures { IfOk result (λ line. line.items ≡ hint_at_place place) }
+{
+    match place {
+        Place::Record(number) => record_hint(alloc, number),
+        _ => Ok(Vec::new(alloc)),
+    }
+}
+
+/// How to find the record that a refusal is about; an empty line where it is about none.
+pub fn hint_of(alloc: Global, subject: Subject) -> Result<Vec<u8>, NoMemory>
+    ensures { IfOk result (λ line. line.items ≡ hint_of_subject subject) }
+{
+    match subject {
+        Subject::File(_, place) => hint_at(alloc, place),
+        _ => Ok(Vec::new(alloc)),
+    }
+}
