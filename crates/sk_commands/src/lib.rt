@@ -3,6 +3,7 @@
 
 pub mod convert;
 pub mod differences;
+pub mod excerpt;
 mod inputs;
 pub mod invert;
 mod kernel;

@@ -4,6 +4,7 @@ ghost use Rattle.std.specs.Int.{IsInRange};
 ghost use Rattle.sk_grammar.specs.Variables.{IsCounted, items_of, variables_of};
 ghost use Rattle.sk_clock.specs.Clock.{total};
 ghost use Rattle.sk_publishing.specs.Row.{AreRows};
+ghost use Rattle.sk_triples.specs.Coefficients.{AreTriplesOf};
 ghost use Rattle.sk_triples.specs.Kernel.{AreOf};
 ghost use Rattle.sk_outcome.specs.Stage.{MayAnswer};
 ghost use Rattle.sk_outcome.specs.Files.{HasFew, leap_pool as leap_pool_stage, leap_table as leap_table_stage, leap_meaning as leap_stage, kernel_pool as pool_stage, kernel_clock as clock_stage, kernel_triples as triples_stage, kernel_meaning as kernel_stage, observed as observed_stage};
@@ -92,15 +93,44 @@ fn kernel_triples(alloc: Global, pool: &Pool, clock: &Clock, sc: u32) -> Result<
     }
 }
 
+/// The variables of a document, and what they mean as the clock kernel of a spacecraft.
+#[derive(Drop)]
+pub struct Meaning {
+    pub pool: Pool,
+    pub clock: Clock,
+    pub triples: Triples,
+}
+
+/// What a document means as the clock kernel of a spacecraft, with its variables.
+pub fn meaning_of(alloc: Global, doc: &Doc, sc: u32) -> Result<Meaning, Status>
+    requires few { HasFew doc.now }
+    requires number { IsInRange 1 999_999_999 sc }
+    ensures stage { MayAnswer (λ m. record { doc = doc.now; clock = m.clock; triples = m.triples }) (kernel_stage sc doc.now) result }
+    ensures pool { IfOk result (λ m. m.pool ≡ variables_of (items_of doc.now)) }
+    ensures triples { IfOk result (λ m. AreTriplesOf m.pool m.clock sc m.triples) }
+    ensures of_clock { IfOk result (λ m. AreOf m.clock m.triples) }
+{
+    let pool = kernel_pool(alloc, doc)?;
+    let clock = kernel_clock(alloc, &pool, sc)?;
+    let triples = kernel_triples(alloc, &pool, &clock, sc)?;
+    Ok(Meaning {
+        pool,
+        clock,
+        triples,
+    })
+}
+
 /// What a document means as the clock kernel of a spacecraft.
 pub fn kernel_meaning(alloc: Global, doc: Doc, sc: u32) -> Result<Kernel, Status>
     requires few { HasFew doc }
     requires number { IsInRange 1 999_999_999 sc }
     ensures { MayAnswer (λ k. k) (kernel_stage sc doc) result }
 {
-    let pool = kernel_pool(alloc, &doc)?;
-    let clock = kernel_clock(alloc, &pool, sc)?;
-    let triples = kernel_triples(alloc, &pool, &clock, sc)?;
+    let Meaning {
+        pool: _,
+        clock,
+        triples,
+    } = meaning_of(alloc, &doc, sc)?;
     Ok(Kernel {
         doc,
         clock,

@@ -1,14 +1,15 @@
 -- Where nothing fails and the files are known, a run comes to one end.
-use Rattle.std.proofs.Common.{rules, ◌≡◌, ℕ, zero, suc, ◌*◌, ◌<◌, ◌≤◌, List, [], ◌∷◌, ◌++◌, length, Option, Some, None, Result, Ok, Err, refl, sym, ap, subst, ◌∙◌, ◌⊎◌, inl, inr, arith}
+use Rattle.std.proofs.Common.{rules, ◌≡◌, ℕ, zero, suc, ◌*◌, ◌<◌, ◌≤◌, List, [], ◌∷◌, ◌++◌, length, Option, Some, None, Result, Ok, Err, refl, sym, ap, subst, ◌∙◌, ◌⊎◌, inl, inr, arith, ◌+◌, ◌-◌}
 use Rattle.std.specs.Prelude.{All, IsSome, IfSome, codes, unwrap_or, is_none, false, slice_index_or}
-use Rattle.std.specs.Option.{option_to_list, option_map_or}
+use Rattle.std.specs.Option.{option_to_list}
 use Rattle.std.proofs.lemmas.Option.{same_Some}
 use Rattle.sk_checks.specs.Checks.{Judges}
+use Rattle.sk_checks.proofs.ChecksLemmas.{plain-single}
 use Rattle.sk_grammar.specs.Document.{DocView}
 use Rattle.sk_grammar.specs.Canonical.{canonical_text, ended_by_line_feeds}
 use Rattle.sk_leap.specs.declared.pair.LeapPair.{LeapPair}
 use Rattle.sk_leap.specs.Leap.{IsLeapTable}
-use Rattle.sk_clock.specs.Clock.{ClockView}
+use Rattle.sk_clock.specs.Clock.{ClockView, total}
 use Rattle.sk_publishing.specs.Row.{RowView}
 use Rattle.sk_obs.specs.Words.{word_checks, IsClockWord}
 use Rattle.sk_obs.proofs.Laws.{IsClockWord-one}
@@ -26,18 +27,19 @@ use Rattle.sk_fit.proofs.OneAnswer.{one_refusal, one_gives, gives_unrefused}
 use Rattle.sk_report.specs.Report.{table_checks}
 use Rattle.sk_sample.specs.Sample.{kernel_text, spacecraft, observations_text}
 use Rattle.sk_words.specs.declared.tables.Command.{Command}
-use Rattle.sk_words.specs.declared.tables.Command.TheVariants.{Publish, Residuals, Normal, Convert, Sample, Invert, Least}
+use Rattle.sk_words.specs.declared.tables.Command.TheVariants.{Publish, Residuals, Normal, Convert, Sample, Invert, Excerpt, Least}
 use Rattle.sk_least.proofs.OneCover.{one_answer}
 use Rattle.sk_words.specs.declared.tables.OptionName.TheVariants as opt
 use Rattle.sk_words.specs.Request.{Options, text_or, number_or, files_of, over_names}
+use Rattle.sk_excerpt.specs.Excerpt.{joined, excerpt_checks, excerpt_doc, IsExcerpt}
 use Rattle.sk_words.specs.Asked.{Request, WordsAsk}
 use Rattle.sk_words.proofs.Needed.{AreNamed, are_named}
 use Rattle.sk_status.specs.declared.status.Status.{Status}
-use Rattle.sk_status.specs.declared.status.Status.TheVariants.{Done, WordsRefused, LeapRefused, KernelRefused, ObservationRefused, NotPublished, WriteFault, NoMemory}
+use Rattle.sk_status.specs.declared.status.Status.TheVariants.{Done, WordsRefused, LeapRefused, KernelRefused, ObservationRefused, NotPublished, WriteFault, NoMemory, ExcerptRefused}
 use Rattle.sk_status.specs.declared.status.FileKind.{FileKind}
 use Rattle.sk_status.specs.declared.status.FileKind.TheVariants.{Document, Observations}
 use Rattle.sk_status.specs.declared.status.DocumentKind.{DocumentKind}
-use Rattle.sk_status.specs.declared.status.DocumentKind.TheVariants.{Leap, Kernel}
+use Rattle.sk_status.specs.declared.status.DocumentKind.TheVariants.{Leap, Kernel, Over}
 use Rattle.sk_status.specs.declared.status.LeapStop.TheVariants as leap_stop
 use Rattle.sk_status.specs.declared.status.KernelStop.TheVariants as kernel_stop
 use Rattle.sk_status.specs.declared.status.ObsStop.TheVariants as obs_stop
@@ -48,11 +50,12 @@ use Rattle.sk_outcome.specs.Stage.{Stage, ◌>>=◌, gives, some, IsDetermined}
 use Rattle.sk_outcome.specs.Files as files
 use Rattle.sk_outcome.specs.Seen.{Source}
 use Rattle.sk_outcome.specs.Files.{KernelRead, reads, judged, document, refused_by, too_long, file_limit, sc_of, leap_named, leap_file, leap_meaning, leap_pool, leap_table, kernel_document, kernel_meaning, kernel_file, kernel_pool, kernel_clock, kernel_triples, observation_file, observed, OpenedRead, InputsRead, opened_read, inputs_read}
+use Rattle.sk_outcome.specs.Joined.{over_documents, joined_behind, named_over, joined_kernel}
 use Rattle.sk_outcome.specs.Publishing.{after_chain, after_rows}
 use Rattle.sk_outcome.specs.Output.{settings_of, dated, plain_table, new_kernel, tick_fields, time_by, line_of, least_text}
 use Rattle.sk_outcome.specs.Sample.{made_kernel, made_observations, made_inputs, sample_line, seed_of, count_of}
 use Rattle.sk_outcome.specs.Time.{IsUtcWord}
-use Rattle.sk_outcome.specs.Outcome.{requested, commanded, told_or, outcome, outcome_of, publish, publish_of, chain_of, residuals, residuals_of, normal, normal_of, convert, convert_of, converted, sample, sample_of, sampled, invert, invert_of, said, ticked, told, covered, clock_tick, TickOf, tabled, all_covered, status_of_report, least, least_of, ShortestCover}
+use Rattle.sk_outcome.specs.Outcome.{requested, commanded, told_or, outcome, outcome_of, publish, publish_of, chain_of, residuals, residuals_of, normal, normal_of, convert, convert_of, converted, sample, sample_of, sampled, invert, invert_of, said, ticked, told, covered, clock_tick, TickOf, tabled, all_covered, status_of_report, least, least_of, ShortestCover, excerpt, excerpt_of, cut_out}
 use Rattle.sk_outcome.specs.Ending.{Ends, HasEnded}
 use Rattle.sk_headline.proofs.Determined.{then_determined, then_determined_of, judged_determined, gives_determined, judges_one}
 use Rattle.sk_headline.proofs.OneAnswer.{doc_one, pool_one, leap_one, clock_one, triples_one, range_single, table_single, words_one}
@@ -322,6 +325,49 @@ least_determined source options calm known =
     (λ inputs. shown_determined (ShortestCover options inputs) (least_text inputs.observations)
     (one_answer inputs.kernel.clock (number_or 1000000 opt.TolNs options * 1000) inputs.observations))
 
+-- the files of a list are known
+abbrev AllKnown : Source → List (List ℕ) → Type 0
+AllKnown source names = All (λ name. IsSome (source.holds name)) names
+
+over_determined : (source : Source) (place : ℕ) (names : List (List ℕ)) → IsCalm source → AllKnown source names → IsDetermined (over_documents source place names)
+over_determined source place [] calm known = gives_determined {A = List DocView} []
+over_determined source place (name ∷ names) calm known =
+    then_determined (document source (Over place) name) (λ doc. over_documents source (place + 1) names >>= (λ docs. gives {A = List DocView} (doc ∷ docs)))
+    (document_determined source (Over place) name calm (known 0 [] (omega arith)))
+    (λ doc. then_determined (over_documents source (place + 1) names) (λ docs. gives {A = List DocView} (doc ∷ docs))
+    (over_determined source (place + 1) names calm (λ k d within. known (suc k) d (omega (arith, within))))
+    (λ docs. gives_determined {A = List DocView} (doc ∷ docs)))
+
+joined_determined : (source : Source) (options : Options) → IsCalm source → IsSome (source.holds (text_or opt.Kernel options)) → AllKnown source (named_over options)
+    → IsDetermined (joined_kernel source options)
+joined_determined source options calm known over =
+    then_determined (kernel_document source options) (λ first. joined_behind source first (named_over options)) (kernel_determined source options calm known)
+    (λ first. then_determined (over_documents source 1 (named_over options)) (λ docs. gives {A = DocView} (joined (first ∷ docs))) (over_determined source 1 (named_over options) calm over)
+    (λ docs. gives_determined {A = DocView} (joined (first ∷ docs))))
+
+one_excerpt : (doc : DocView) (sc : ℕ) (triples : List TripleView) (from to : ℕ) (x y : DocView) → IsExcerpt doc sc triples from to x → IsExcerpt doc sc triples from to y → x ≡ y
+one_excerpt doc sc triples from to x y h k =
+    h.result_is
+    ∙ ap (λ (first : ℕ × TripleView). excerpt_doc doc sc (first.0 - 1) (h.last.0 - 1)) (same_Some h.first k.first (sym h.covers_from ∙ k.covers_from))
+    ∙ ap (λ (last : ℕ × TripleView). excerpt_doc doc sc (k.first.0 - 1) (last.0 - 1)) (same_Some h.last k.last (sym h.covers_to ∙ k.covers_to))
+    ∙ sym k.result_is
+
+cut_determined : (sc from to : ℕ) (kernel : KernelRead) → IsDetermined (cut_out sc from to kernel)
+cut_determined sc from to kernel =
+    let checks = excerpt_checks (total kernel.clock) kernel.triples.triples from to in
+    let P : DocView → Type 0 = IsExcerpt kernel.doc sc kernel.triples.triples from to in
+    judged_determined (Judges checks P) ExcerptRefused
+    (judges_one checks P (plain-single _ _, (plain-single _ _, tt)) (one_excerpt kernel.doc sc kernel.triples.triples from to))
+
+excerpt_determined : (source : Source) (options : Options) → IsCalm source → IsSome (source.holds (text_or opt.Kernel options)) → AllKnown source (named_over options)
+    → IsDetermined (excerpt source options)
+excerpt_determined source options calm known over =
+    let cut : KernelRead → Stage DocView = cut_out (sc_of options) (number_or 0 opt.From options) (number_or 0 opt.To options) in
+    then_determined (joined_kernel source options) (excerpt_of options) (joined_determined source options calm known over)
+    (λ doc. then_determined (kernel_meaning (sc_of options) doc) (λ kernel. cut kernel >>= normal_of) (meaning_determined (sc_of options) doc)
+    (λ kernel. then_determined (cut kernel) normal_of (cut_determined (sc_of options) (number_or 0 opt.From options) (number_or 0 opt.To options) kernel)
+    (λ part. gives_determined (canonical_text part))))
+
 -- ---- the files of the words
 
 pub front_known : (P : List ℕ → Type 0) (names others : List (List ℕ)) → All P (names ++ others) → (k : ℕ) (d : List ℕ) → k < length names → P (slice_index_or names k d)
@@ -341,11 +387,12 @@ pub named_known : (P : List ℕ → Type 0) (named : Option (List ℕ)) → is_n
 named_known P None given h = cc
 named_known P (Some name) given h = h
 
--- the leap second kernel, where it is named, the clock kernel and the observations
+-- the leap second kernel, where it is named, the clock kernel, the observations and the kernels of `--over`
 pub record HaveBytes (source : Source) (options : Options) : Type 0 where
   leap : IfSome (options opt.Leap) (λ name. IsSome (source.holds name))
   kernel : IfSome (options opt.Kernel) (λ name. IsSome (source.holds name))
   observations : IfSome (options opt.Obs) (λ name. IsSome (source.holds name))
+  over : AllKnown source (named_over options)
 
 pub have_bytes : (source : Source) (options : Options) → All (λ name. IsSome (source.holds name)) (files_of options) → HaveBytes source options
 have_bytes source options h =
@@ -354,7 +401,7 @@ have_bytes source options h =
     let kernel = option_to_list (options opt.Kernel) in
     let observations = option_to_list (options opt.Obs) in
     let new = option_to_list (options opt.New) in
-    let over = option_map_or over_names (options opt.Over) [] in
+    let over = named_over options in
     let without_over : All P (leap ++ kernel ++ observations ++ new) = front_known P (leap ++ kernel ++ observations ++ new) over h in
     let three : All P (leap ++ kernel ++ observations) = front_known P (leap ++ kernel ++ observations) new without_over in
     let two : All P (leap ++ kernel) = front_known P (leap ++ kernel) observations three in
@@ -362,6 +409,7 @@ have_bytes source options h =
       leap = one_known P (options opt.Leap) (front_known P leap kernel two);
       kernel = one_known P (options opt.Kernel) (others_known P leap kernel two);
       observations = one_known P (options opt.Obs) (others_known P (leap ++ kernel) observations three);
+      over = others_known P (leap ++ kernel ++ observations ++ new) over h;
     }
 
 -- the files of a command that needs a clock kernel, and of one that needs observations too
@@ -386,6 +434,8 @@ command_determined Normal source options calm named known =
 command_determined Convert source options calm named known = convert_determined source options calm (files_open source options named known)
 command_determined Sample source options calm named known = sample_determined source options
 command_determined Invert source options calm named known = invert_determined source options calm (files_open source options named known)
+command_determined Excerpt source options calm named known =
+    excerpt_determined source options calm (named_known (λ name. IsSome (source.holds name)) (options opt.Kernel) named known.kernel) known.over
 command_determined Least source options calm named known = least_determined source options calm (files_known source options named known)
 
 -- ---- the whole

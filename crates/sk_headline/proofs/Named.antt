@@ -5,7 +5,7 @@ use Rattle.std.specs.Option.{option_to_list, option_map_or}
 use Rattle.sk_grammar.specs.Document.{DocView}
 use Rattle.sk_leap.specs.declared.pair.LeapPair.{LeapPair}
 use Rattle.sk_words.specs.declared.tables.Command.{Command}
-use Rattle.sk_words.specs.declared.tables.Command.TheVariants.{Publish, Residuals, Normal, Convert, Sample, Invert, Least}
+use Rattle.sk_words.specs.declared.tables.Command.TheVariants.{Publish, Residuals, Normal, Convert, Sample, Invert, Excerpt, Least}
 use Rattle.sk_words.specs.declared.tables.OptionName.TheVariants as opt
 use Rattle.sk_words.specs.declared.topic.Topic.{Topic}
 use Rattle.sk_words.specs.Asked.{Request}
@@ -18,10 +18,12 @@ use Rattle.sk_status.specs.declared.status.DocumentKind.{DocumentKind}
 use Rattle.sk_status.specs.declared.status.DocumentKind.TheVariants.{Leap, Kernel, Over}
 use Rattle.sk_status.specs.declared.status.FileKind.{FileKind}
 use Rattle.sk_status.specs.declared.status.FileKind.TheVariants.{Document, Observations}
+use Rattle.sk_excerpt.specs.Excerpt.{joined}
 use Rattle.sk_outcome.specs.Stage.{Stage, ◌>>=◌, gives, IsDetermined}
 use Rattle.sk_outcome.specs.Seen.{Source}
 use Rattle.sk_outcome.specs.Files.{reads, judged, file_limit, DocOf, refused_by, document, leap_named, leap_file, leap_meaning, kernel_document, kernel_meaning, kernel_file, observation_file, observed, OpenedRead, InputsRead, opened_read, inputs_read, sc_of}
-use Rattle.sk_outcome.specs.Outcome.{requested, commanded, told_or, outcome, outcome_of, publish_of, residuals_of, normal_of, convert_of, sample, invert_of, least_of, over_documents}
+use Rattle.sk_outcome.specs.Outcome.{requested, commanded, told_or, outcome, outcome_of, publish_of, residuals_of, normal_of, convert_of, sample, invert_of, excerpt_of, least_of}
+use Rattle.sk_outcome.specs.Joined.{over_documents, joined_behind, named_over, joined_kernel}
 use Rattle.sk_headline.specs.Uses.{quiet, EachNamed, OneOutcome, NamedFilesAlone}
 use Rattle.sk_headline.proofs.Determined.{then_determined_of, gives_determined}
 use Rattle.sk_headline.proofs.Complete.{HaveBytes, have_bytes, front_known, others_known, one_known, named_known, command_determined, requested_determined}
@@ -110,6 +112,13 @@ module _ (s u : Source) (read : s.given ≤ u.given) where
     pub kernel_document_moved : HaveKernel → Moved (kernel_document s options) (kernel_document u options)
     kernel_document_moved kernel = document_moved Kernel (text_or opt.Kernel options) kernel
 
+    joined_moved : HaveKernel → All Same (named_over options) → Moved (joined_kernel s options) (joined_kernel u options)
+    joined_moved kernel over =
+        then_moved (kernel_document s options) (kernel_document u options) (λ first. joined_behind s first (named_over options)) (λ first. joined_behind u first (named_over options))
+        (kernel_document_moved kernel)
+        (λ first. then_moved (over_documents s 1 (named_over options)) (over_documents u 1 (named_over options)) (λ docs. gives (joined (first ∷ docs))) (λ docs. gives (joined (first ∷ docs)))
+        (over_moved 1 (named_over options) over) (λ docs. unmoved (gives (joined (first ∷ docs)))))
+
     kernel_moved : HaveKernel → Moved (kernel_file s options) (kernel_file u options)
     kernel_moved kernel =
         then_moved (kernel_document s options) (kernel_document u options) (kernel_meaning (sc_of options)) (kernel_meaning (sc_of options))
@@ -162,6 +171,9 @@ module _ (s u : Source) (read : s.given ≤ u.given) where
     command_moved Invert named files =
         then_moved (opened_read s options) (opened_read u options) (invert_of options) (invert_of options)
         (opened_moved files.leap (given (options opt.Kernel) named files.kernel)) (λ opened. unmoved (invert_of options opened))
+    command_moved Excerpt named files =
+        then_moved (joined_kernel s options) (joined_kernel u options) (excerpt_of options) (excerpt_of options)
+        (joined_moved (given (options opt.Kernel) named files.kernel) files.over) (λ doc. unmoved (excerpt_of options doc))
     command_moved Least named files =
         then_moved (inputs_read s options) (inputs_read u options) (least_of options) (least_of options)
         (inputs_moved files.leap (given (options opt.Kernel) named.0 files.kernel) (given (options opt.Obs) named.1 files.observations)) (λ inputs. unmoved (least_of options inputs))

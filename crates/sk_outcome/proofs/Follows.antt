@@ -1,11 +1,13 @@
 -- The stages of a run follow their sources: what they answer stands over each source that holds the same files.
-use Rattle.std.proofs.Common.{ℕ, List, [], ◌∷◌, Option, Some, None}
+use Rattle.std.proofs.Common.{ℕ, ◌+◌, List, [], ◌∷◌, Option, Some, None}
 use Rattle.std.specs.Prelude.{codes}
 use Rattle.sk_status.specs.declared.status.DocumentKind.{DocumentKind}
-use Rattle.sk_status.specs.declared.status.DocumentKind.TheVariants.{Leap, Kernel}
+use Rattle.sk_grammar.specs.Document.{DocView}
+use Rattle.sk_excerpt.specs.Excerpt.{joined}
+use Rattle.sk_status.specs.declared.status.DocumentKind.TheVariants.{Leap, Kernel, Over}
 use Rattle.sk_status.specs.declared.status.FileKind.TheVariants.{Document, Observations}
 use Rattle.sk_words.specs.declared.tables.Command.{Command}
-use Rattle.sk_words.specs.declared.tables.Command.TheVariants.{Publish, Residuals, Normal, Convert, Sample, Invert, Least}
+use Rattle.sk_words.specs.declared.tables.Command.TheVariants.{Publish, Residuals, Normal, Convert, Sample, Invert, Excerpt, Least}
 use Rattle.sk_words.specs.declared.tables.OptionName.TheVariants as opt
 use Rattle.sk_words.specs.Asked.{Request}
 use Rattle.sk_words.specs.Request.{Options, text_or}
@@ -15,14 +17,15 @@ use Rattle.sk_words.specs.Topics.{topic_of}
 use Rattle.sk_outcome.specs.Stage.{Stage, ◌>>=◌, gives}
 use Rattle.sk_outcome.specs.Seen.{Source}
 use Rattle.sk_outcome.specs.Files.{reads, judged, DocOf, refused_by, document, leap_meaning, leap_named, leap_file, kernel_document, kernel_meaning, kernel_file, observed, observation_file, OpenedRead, InputsRead, opened_read, inputs_read, sc_of}
-use Rattle.sk_outcome.specs.Outcome.{requested, commanded, told_or, outcome, outcome_of, publish_of, residuals_of, normal_of, convert_of, sample_of, invert_of, least_of}
+use Rattle.sk_outcome.specs.Outcome.{requested, commanded, told_or, outcome, outcome_of, publish_of, residuals_of, normal_of, convert_of, sample_of, invert_of, least_of, excerpt_of}
 use Rattle.sk_outcome.specs.Sample.{made_inputs}
+use Rattle.sk_outcome.specs.Joined.{over_documents, joined_behind, named_over, joined_kernel}
 use Rattle.sk_leap.specs.declared.pair.LeapPair.{LeapPair}
 use Rattle.sk_outcome.proofs.Moves.{Follows, then_follows, reads_follow, no_reading}
 
 -- ---- files
 
-document_follows : (kind : DocumentKind) (name : List ℕ) → Follows (λ s. document s kind name)
+pub document_follows : (kind : DocumentKind) (name : List ℕ) → Follows (λ s. document s kind name)
 document_follows kind name =
     then_follows (λ s. reads s (Document kind) name) (λ s bytes. judged (DocOf bytes) (refused_by kind)) (reads_follow (Document kind) name)
     (λ bytes. no_reading (judged (DocOf bytes) (refused_by kind)))
@@ -35,7 +38,7 @@ leap_named_follows (Some name) =
 pub leap_follows : (options : Options) → Follows (λ s. leap_file s options)
 leap_follows options = leap_named_follows (options opt.Leap)
 
-kernel_document_follows : (options : Options) → Follows (λ s. kernel_document s options)
+pub kernel_document_follows : (options : Options) → Follows (λ s. kernel_document s options)
 kernel_document_follows options = document_follows Kernel (text_or opt.Kernel options)
 
 pub kernel_follows : (options : Options) → Follows (λ s. kernel_file s options)
@@ -73,6 +76,25 @@ rows_after_follow options opened =
 inputs_follow : (options : Options) → Follows (λ s. inputs_read s options)
 inputs_follow options = then_follows (λ s. opened_read s options) (rows_after options) (opened_follows options) (rows_after_follow options)
 
+-- ---- several kernels
+
+pub over_follows : (place : ℕ) (names : List (List ℕ)) → Follows (λ s. over_documents s place names)
+over_follows place [] = no_reading (gives {A = List DocView} [])
+over_follows place (name ∷ names) =
+    then_follows (λ s. document s (Over place) name) (λ s doc. over_documents s (place + 1) names >>= (λ docs. gives {A = List DocView} (doc ∷ docs))) (document_follows (Over place) name)
+    (λ doc. then_follows (λ s. over_documents s (place + 1) names) (λ s docs. gives {A = List DocView} (doc ∷ docs)) (over_follows (place + 1) names)
+    (λ docs. no_reading (gives {A = List DocView} (doc ∷ docs))))
+
+pub behind_follows : (names : List (List ℕ)) (first : DocView) → Follows (λ s. joined_behind s first names)
+behind_follows names first =
+    then_follows (λ s. over_documents s 1 names) (λ s docs. gives {A = DocView} (joined (first ∷ docs))) (over_follows 1 names)
+    (λ docs. no_reading (gives {A = DocView} (joined (first ∷ docs))))
+
+joined_follows : (options : Options) → Follows (λ s. joined_kernel s options)
+joined_follows options =
+    then_follows (λ s. kernel_document s options) (λ s first. joined_behind s first (named_over options)) (kernel_document_follows options)
+    (behind_follows (named_over options))
+
 -- ---- commands
 
 command_follows : (command : Command) (options : Options) → Follows (λ s. outcome_of command s options)
@@ -82,6 +104,7 @@ command_follows Normal options = then_follows (λ s. kernel_document s options) 
 command_follows Convert options = then_follows (λ s. opened_read s options) (λ s opened. convert_of options opened) (opened_follows options) (λ opened. no_reading (convert_of options opened))
 command_follows Sample options = no_reading (made_inputs options >>= sample_of options)
 command_follows Invert options = then_follows (λ s. opened_read s options) (λ s opened. invert_of options opened) (opened_follows options) (λ opened. no_reading (invert_of options opened))
+command_follows Excerpt options = then_follows (λ s. joined_kernel s options) (λ s doc. excerpt_of options doc) (joined_follows options) (λ doc. no_reading (excerpt_of options doc))
 command_follows Least options = then_follows (λ s. inputs_read s options) (λ s inputs. least_of options inputs) (inputs_follow options) (λ inputs. no_reading (least_of options inputs))
 
 commanded_follows : (words : List (List ℕ)) → Follows (λ s. commanded words s)

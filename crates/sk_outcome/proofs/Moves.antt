@@ -32,6 +32,19 @@ may_end_as {A} {B} {X} {Y} view view' first next q r status e f h =
     subst (λ (s : Result Y Status). MayAnswer view' (first >>= next) s) (sym f)
     (may_end view view' first next status (subst (λ (s : Result X Status). MayAnswer view first s) e h))
 
+-- a status ends a run, however its values are seen
+pub may_see : {A X Y : Type 0} (view : X → A) (view' : Y → A) (stage : Stage A) (status : Status)
+    → MayAnswer view stage (Err status) → MayAnswer view' stage (Err status)
+may_see view view' stage NoMemory h = tt
+may_see view view' stage _ h = h
+
+-- the same of two results that are this status
+pub may_see_as : {A X Y : Type 0} (view : X → A) (view' : Y → A) (stage : Stage A) (q : Result X Status) (r : Result Y Status) (status : Status)
+    → q ≡ Err status → r ≡ Err status → MayAnswer view stage q → MayAnswer view' stage r
+may_see_as {A} {X} {Y} view view' stage q r status e f h =
+    subst (λ (s : Result Y Status). MayAnswer view' stage s) (sym f)
+    (may_see view view' stage status (subst (λ (s : Result X Status). MayAnswer view stage s) e h))
+
 -- what `?` hands on
 pub handed_on : {X : Type 0} (r : Result X Status) (status : Status) → IsErrAnd r (λ (s : Status). s ≡ status) → r ≡ Err status
 handed_on (Ok x) status h = absurd h
@@ -96,7 +109,7 @@ module _ {D : Type 0} (holds : D → List ℕ → Option (List ℕ)) (given : D 
   abbrev seen : D → D → Source
   seen a b = seen_by holds given faults a b
 
-  moves : (a b c : D) → Stays holds faults a b → Moves (seen b c) (seen a c)
+  pub moves : (a b c : D) → Stays holds faults a b → Moves (seen b c) (seen a c)
   moves a b c h = record {
     holds = λ name. sym (h.0 name);
     rose = λ name r. rose_later (faults a name) (faults b name) (faults c name) (h.1 name) r;

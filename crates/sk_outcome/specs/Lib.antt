@@ -1,6 +1,7 @@
 pub mod Stage
 pub mod Seen
 pub mod Files
+pub mod Joined
 pub mod Time
 pub mod Output
 pub mod Sample

@@ -1,6 +1,5 @@
 -- What a run of each command comes to: the text that it writes, or the status that ends it first.
-use Rattle.std.specs.Prelude.{◌≡◌, ℕ, ◌+◌, ◌^◌, ℤ, pos, ◌*ℤ◌, List, [], ◌∷◌, ◌++◌, codes, Result, Ok, Err, Option, Some, None, ⊤}
-use Rattle.std.specs.Option.{option_map_or}
+use Rattle.std.specs.Prelude.{◌≡◌, ℕ, ◌^◌, ℤ, pos, ◌*ℤ◌, List, [], ◌∷◌, ◌++◌, codes, Result, Ok, Err, Option, Some, None, ⊤}
 use Rattle.sk_grammar.specs.Canonical.{canonical_text, ended_by_line_feeds}
 use Rattle.sk_grammar.specs.Document.{DocView}
 use Rattle.sk_checks.specs.Checks.{Judges}
@@ -29,10 +28,10 @@ use Rattle.sk_excerpt.specs.Excerpt as ex
 use Rattle.sk_least.specs.Answer as cover
 use Rattle.sk_least.specs.declared.stretch.Stretch.{Stretch}
 use Rattle.sk_words.specs.declared.tables.Command.{Command}
-use Rattle.sk_words.specs.declared.tables.Command.TheVariants.{Publish, Residuals, Normal, Convert, Sample, Invert, Least}
+use Rattle.sk_words.specs.declared.tables.Command.TheVariants.{Publish, Residuals, Normal, Convert, Sample, Invert, Excerpt, Least}
 use Rattle.sk_status.specs.declared.status.Status.{Status}
 use Rattle.sk_status.specs.declared.status.Status.TheVariants.{WordsRefused, ObservationRefused, NotPublished, TimeRefused, AuditNo, ExcerptRefused, NoMemory}
-use Rattle.sk_status.specs.declared.status.DocumentKind.TheVariants.{New, Over}
+use Rattle.sk_status.specs.declared.status.DocumentKind.TheVariants.{New}
 use Rattle.sk_status.specs.declared.status.ObsStop.TheVariants as obs_stop
 use Rattle.sk_status.specs.declared.status.TimeStop.{TimeStop}
 use Rattle.sk_status.specs.declared.status.TimeStop.TheVariants as time_stop
@@ -42,9 +41,10 @@ use Rattle.sk_words.specs.Help.{page_of}
 use Rattle.sk_words.specs.Topics.{topic_of}
 use Rattle.sk_words.specs.declared.topic.Topic.{Topic}
 use Rattle.sk_outcome.specs.Stage.{Stage, ◌>>=◌, gives, some}
-use Rattle.sk_words.specs.Request.{Options, number_or, text_or, over_names}
+use Rattle.sk_words.specs.Request.{Options, number_or, text_or}
 use Rattle.sk_outcome.specs.Seen.{Source}
 use Rattle.sk_outcome.specs.Files.{judged, document, kernel_document, kernel_meaning, KernelRead, OpenedRead, InputsRead, opened_read, inputs_read, sc_of}
+use Rattle.sk_outcome.specs.Joined.{joined_kernel}
 use Rattle.sk_outcome.specs.Output.{settings_of, plain_table, published_doc, tick_fields, time_by, line_of, least_text, new_kernel}
 use Rattle.sk_outcome.specs.Time.{time_stops, IsUtcWord}
 use Rattle.sk_outcome.specs.Sample.{made_inputs, sample_line}
@@ -206,29 +206,22 @@ audit source options = do
       }))
   gives (line_of (codes "yes" ∷ []))
 
--- the files of `--over`, numbered from 1
-abbrev pub over_documents : Source → ℕ → List (List ℕ) → Stage (List DocView)
-over_documents source place [] = gives []
-over_documents source place (name ∷ names) = do
-  doc ← document source (Over place) name
-  docs ← over_documents source (place + 1) names
-  gives (doc ∷ docs)
-
 -- the part of a kernel from one tick to another
-abbrev pub cut_out : Options → KernelRead → Stage DocView
-cut_out options kernel =
-    let from = number_or 0 opt.From options in
-    let to = number_or 0 opt.To options in
-    judged (Judges (ex.excerpt_checks (total kernel.clock) kernel.triples.triples from to)
-    (ex.IsExcerpt kernel.doc (sc_of options) kernel.triples.triples from to)) ExcerptRefused
+abbrev pub cut_out : ℕ → ℕ → ℕ → KernelRead → Stage DocView
+cut_out sc from to kernel = judged
+    (Judges (ex.excerpt_checks (total kernel.clock) kernel.triples.triples from to) (ex.IsExcerpt kernel.doc sc kernel.triples.triples from to))
+    ExcerptRefused
+
+abbrev pub excerpt_of : Options → DocView → Stage (List ℕ)
+excerpt_of options doc = do
+  kernel ← kernel_meaning (sc_of options) doc
+  part ← cut_out (sc_of options) (number_or 0 opt.From options) (number_or 0 opt.To options) kernel
+  normal_of part
 
 abbrev pub excerpt : Source → Options → Stage (List ℕ)
 excerpt source options = do
-  first ← kernel_document source options
-  docs ← over_documents source 1 (option_map_or over_names (options opt.Over) [])
-  kernel ← kernel_meaning (sc_of options) (ex.joined (first ∷ docs))
-  doc ← cut_out options kernel
-  gives (canonical_text doc)
+  doc ← joined_kernel source options
+  excerpt_of options doc
 
 -- the fewest lines that meet the observations
 abbrev pub ShortestCover : Options → InputsRead → List Stretch → Type 0
@@ -253,6 +246,7 @@ outcome_of Normal = normal
 outcome_of Convert = convert
 outcome_of Sample = sample
 outcome_of Invert = invert
+outcome_of Excerpt = excerpt
 outcome_of Least = least
 
 -- the words

@@ -12,6 +12,7 @@ mod help_tests;
 mod laws;
 mod limits;
 mod matched;
+mod over;
 mod ranges;
 mod request;
 mod settings;

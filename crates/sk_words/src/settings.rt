@@ -88,4 +88,20 @@ impl<'a> Request<'a> {
     {
         self.number(OptionName::Reject) as u32
     }
+
+    /// The first encoded tick of a range.
+    pub fn first_tick(&self) -> u64
+        ensures number { result ≡ number_or 0 OptionName.From (options_in self.now) }
+        ensures range { result ≤ 9_007_199_254_740_991 }
+    {
+        self.number(OptionName::From)
+    }
+
+    /// The last encoded tick of a range.
+    pub fn last_tick(&self) -> u64
+        ensures number { result ≡ number_or 0 OptionName.To (options_in self.now) }
+        ensures range { result ≤ 9_007_199_254_740_991 }
+    {
+        self.number(OptionName::To)
+    }
 }

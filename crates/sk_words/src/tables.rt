@@ -38,16 +38,18 @@ pub enum Command {
     Convert,
     Sample,
     Invert,
+    Excerpt,
     Least,
 }
 
-static COMMANDS: [Command; 7] = [
+static COMMANDS: [Command; 8] = [
     Command::Publish,
     Command::Residuals,
     Command::Normal,
     Command::Convert,
     Command::Sample,
     Command::Invert,
+    Command::Excerpt,
     Command::Least,
 ];
 
@@ -130,6 +132,21 @@ static INVERT_USES: [OptionName; 4] = [
     OptionName::Time,
 ];
 
+static EXCERPT_NEEDS: [OptionName; 4] = [
+    OptionName::Kernel,
+    OptionName::Sc,
+    OptionName::From,
+    OptionName::To,
+];
+
+static EXCERPT_USES: [OptionName; 5] = [
+    OptionName::Kernel,
+    OptionName::Sc,
+    OptionName::Over,
+    OptionName::From,
+    OptionName::To,
+];
+
 static LEAST_NEEDS: [OptionName; 3] = [OptionName::Kernel, OptionName::Obs, OptionName::Sc];
 
 static LEAST_USES: [OptionName; 5] = [
@@ -195,6 +212,7 @@ impl Command {
             Command::Convert => "convert",
             Command::Sample => "sample",
             Command::Invert => "invert",
+            Command::Excerpt => "excerpt",
             Command::Least => "least",
         }
     }
@@ -210,6 +228,7 @@ impl Command {
             Command::Convert => CONVERT_NEEDS.as_slice(),
             Command::Sample => SAMPLE_NEEDS.as_slice(),
             Command::Invert => INVERT_NEEDS.as_slice(),
+            Command::Excerpt => EXCERPT_NEEDS.as_slice(),
             Command::Least => LEAST_NEEDS.as_slice(),
         }
     }
@@ -225,6 +244,7 @@ impl Command {
             Command::Convert => CONVERT_USES.as_slice(),
             Command::Sample => SAMPLE_USES.as_slice(),
             Command::Invert => INVERT_USES.as_slice(),
+            Command::Excerpt => EXCERPT_USES.as_slice(),
             Command::Least => LEAST_USES.as_slice(),
         }
     }

@@ -2,9 +2,9 @@
 use Rattle.std.proofs.Common.{◌≡◌, ℕ, ℤ, pos, ◌*ℤ◌, ◌^◌, ◌+◌, ◌++◌, List, Option, Some, None, Result, Ok, Err, [], ◌∷◌, sym, subst, inl, inr}
 use Rattle.std.specs.Prelude.{codes, unwrap_or, IsSomeAnd}
 use Rattle.sk_status.specs.declared.status.Status.{Status}
-use Rattle.sk_status.specs.declared.status.Status.TheVariants.{Done, WordsRefused, LeapRefused, KernelRefused, ObservationRefused, NotPublished, WriteFault, NoMemory, TimeRefused}
+use Rattle.sk_status.specs.declared.status.Status.TheVariants.{Done, WordsRefused, LeapRefused, KernelRefused, ObservationRefused, NotPublished, WriteFault, NoMemory, TimeRefused, ExcerptRefused}
 use Rattle.sk_words.specs.declared.tables.Command.{Command}
-use Rattle.sk_words.specs.declared.tables.Command.TheVariants.{Publish, Residuals, Normal, Convert, Sample, Invert, Least}
+use Rattle.sk_words.specs.declared.tables.Command.TheVariants.{Publish, Residuals, Normal, Convert, Sample, Invert, Excerpt, Least}
 use Rattle.sk_status.specs.declared.status.FileKind.{FileKind}
 use Rattle.sk_status.specs.declared.status.FileKind.TheVariants.{Document, Observations}
 use Rattle.sk_status.specs.declared.status.DocumentKind.{DocumentKind}
@@ -46,12 +46,13 @@ use Rattle.sk_fit.specs.Given.{new_triples_of}
 use Rattle.sk_report.specs.Report.{table_checks}
 use Rattle.sk_report.specs.declared.fault.ReportFault.{ReportFault}
 use Rattle.sk_report.specs.declared.fault.ReportFault.TheVariants as report_fault
+use Rattle.sk_words.specs.declared.fault.WordsFault.{WordsFault}
 use Rattle.sk_words.specs.declared.topic.Topic.{Topic}
 use Rattle.sk_words.specs.Help.{page_of}
 use Rattle.sk_words.specs.Topics.{topic_of}
 use Rattle.sk_outcome.specs.Stage.{Stage, ◌>>=◌, MayAnswer, gives, some}
 use Rattle.sk_words.specs.Asked.{WordsAsk}
-use Rattle.sk_words.specs.Request.{Options, text_or}
+use Rattle.sk_words.specs.Request.{Options, text_or, number_or}
 use Rattle.sk_outcome.specs.Files as files
 use Rattle.sk_outcome.specs.Seen.{Source}
 use Rattle.sk_outcome.specs.Files.{KernelRead, OpenedRead, InputsRead, reads, judged, refused_by, document_too_long, too_long, opened_read, inputs_read, sc_of}
@@ -59,7 +60,10 @@ use Rattle.sk_inverse.specs.Inverse.{IsTickOf, inverse_checks}
 use Rattle.sk_sample.specs.Sample.{kernel_text, spacecraft, observations_text}
 use Rattle.sk_inverse.specs.declared.fault.InverseFault.{InverseFault}
 use Rattle.sk_inverse.specs.declared.fault.InverseFault.TheVariants as inverse_fault
-use Rattle.sk_outcome.specs.Outcome.{requested, commanded, told_or, outcome, outcome_of, publish, publish_of, chain_of, residuals, residuals_of, normal, normal_of, convert, convert_of, converted, sample, sample_of, sampled, invert, invert_of, said, ticked, told, TimeOf, status_of_time, clock_tick, TickOf, covered, tabled, all_covered, status_of_report, least, least_of, ShortestCover}
+use Rattle.sk_outcome.specs.Outcome.{requested, commanded, told_or, outcome, outcome_of, publish, publish_of, chain_of, residuals, residuals_of, normal, normal_of, convert, convert_of, converted, sample, sample_of, sampled, invert, invert_of, said, ticked, told, TimeOf, status_of_time, clock_tick, TickOf, covered, tabled, all_covered, status_of_report, least, least_of, ShortestCover, excerpt, excerpt_of, cut_out}
+use Rattle.sk_excerpt.specs.Excerpt.{joined, excerpt_checks, IsExcerpt}
+use Rattle.sk_excerpt.specs.declared.fault.ExcerptFault.{ExcerptFault}
+use Rattle.sk_outcome.specs.Joined.{over_documents, joined_behind, named_over, joined_kernel}
 use Rattle.sk_outcome.specs.Publishing.{after_chain, after_rows}
 use Rattle.sk_outcome.specs.Output.{settings_of, plain_table, new_kernel, published_doc, tick_fields, time_by, line_of, least_text}
 use Rattle.sk_outcome.specs.Sample.{made_kernel, made_observations, made_inputs, sample_line, seed_of, count_of}
@@ -77,11 +81,20 @@ Wrote WriteFault = Unit {0}
 Wrote status = ⊥
 
 -- the end of a run that was refused: nothing was written, and want of memory is not the reason
-abbrev pub Stands : Status → Type 0
-Stands status = (Wrote status → ⊥) × CarriesNoMemory status
+abbrev Ended : Status → Type 0
+Ended status = (Wrote status → ⊥) × CarriesNoMemory status
 
-standing : (⊥ → ⊥) × Unit {0}
-standing = (λ w. w, tt)
+-- the words are not the reason
+abbrev TakesWords : Status → Type 0
+TakesWords (WordsRefused fault) = ⊥
+TakesWords status = Unit {0}
+
+-- the end of a command that was refused, whose words were taken
+abbrev Stands : Status → Type 0
+Stands status = (Wrote status → ⊥) × CarriesNoMemory status × TakesWords status
+
+standing : (⊥ → ⊥) × Unit {0} × Unit {0}
+standing = (λ w. w, tt, tt)
 
 abbrev Always : {A : Type 0} → Stage A → Type 0
 Always stage = (status : Status) → stage (Err status) → Stands status
@@ -361,6 +374,33 @@ always_least source options =
     (λ inputs. always_then (some (ShortestCover options inputs)) (λ (stretches : List Stretch). gives (least_text inputs.observations stretches)) (λ status h. absurd h)
     (λ stretches. always_gives (least_text inputs.observations stretches)))
 
+always_over : (source : Source) (place : ℕ) (names : List (List ℕ)) → Always (over_documents source place names)
+always_over source place [] = always_gives {A = List DocView} []
+always_over source place (name ∷ names) =
+    always_then (files.document source (Over place) name) (λ doc. over_documents source (place + 1) names >>= (λ docs. gives {A = List DocView} (doc ∷ docs))) (always_document source (Over place) name)
+    (λ doc. always_then (over_documents source (place + 1) names) (λ docs. gives {A = List DocView} (doc ∷ docs)) (always_over source (place + 1) names)
+    (λ docs. always_gives {A = List DocView} (doc ∷ docs)))
+
+always_joined : (source : Source) (options : Options) → Always (joined_kernel source options)
+always_joined source options =
+    always_then (files.kernel_document source options) (λ first. joined_behind source first (named_over options)) (always_document source Kernel (text_or opt.Kernel options))
+    (λ first. always_then (over_documents source 1 (named_over options)) (λ docs. gives {A = DocView} (joined (first ∷ docs))) (always_over source 1 (named_over options))
+    (λ docs. always_gives {A = DocView} (joined (first ∷ docs))))
+
+always_cut : (sc from to : ℕ) (kernel : KernelRead) → Always (cut_out sc from to kernel)
+always_cut sc from to kernel =
+    let checks = excerpt_checks (total kernel.clock) kernel.triples.triples from to in
+    always_judged (Judges checks (IsExcerpt kernel.doc sc kernel.triples.triples from to)) ExcerptRefused
+    (λ fault h. said_of (λ (f : ExcerptFault). Stands (ExcerptRefused f)) checks fault (standing, (standing, tt)) h)
+
+always_excerpt : (source : Source) (options : Options) → Always (excerpt source options)
+always_excerpt source options =
+    let cut : KernelRead → Stage DocView = cut_out (sc_of options) (number_or 0 opt.From options) (number_or 0 opt.To options) in
+    always_then (joined_kernel source options) (excerpt_of options) (always_joined source options)
+    (λ doc. always_then (files.kernel_meaning (sc_of options) doc) (λ kernel. cut kernel >>= normal_of) (always_meaning (sc_of options) doc)
+    (λ kernel. always_then (cut kernel) normal_of (always_cut (sc_of options) (number_or 0 opt.From options) (number_or 0 opt.To options) kernel)
+    (λ part. always_gives (canonical_text part))))
+
 always_command : (command : Command) (source : Source) (options : Options) → Always (outcome_of command source options)
 always_command Publish source options = always_publish source options
 always_command Residuals source options = always_residuals source options
@@ -368,21 +408,26 @@ always_command Normal source options = always_normal source options
 always_command Convert source options = always_convert source options
 always_command Sample source options = always_sample source options
 always_command Invert source options = always_invert source options
+always_command Excerpt source options = always_excerpt source options
 always_command Least source options = always_least source options
 
-always_commanded : (words : List (List ℕ)) (source : Source) → Always (commanded words source)
-always_commanded words source =
-    always_then (requested words) (λ request. outcome_of request.command source request.options)
-    (always_judged (WordsAsk words) WordsRefused (λ fault h. standing))
-    (λ request. always_command request.command source request.options)
+-- no command refuses its words
+pub takes_words : {X : Type 0} (view : X → List ℕ) (command : Command) (source : Source) (options : Options) (fault : WordsFault) (r : Result X Status)
+    → MayAnswer view (outcome_of command source options) r → r ≡ Err (WordsRefused fault) → ⊥
+takes_words {X} view command source options fault r h e =
+    (always_command command source options (WordsRefused fault) (subst (λ (q : Result X Status). MayAnswer view (outcome_of command source options) q) e h)).2
 
-always_told_or : (topic : Option Topic) (next : Stage (List ℕ)) → Always next → Always (told_or topic next)
-always_told_or (Some topic) next h = always_gives (page_of topic)
-always_told_or None next h = h
+commanded_ended : (words : List (List ℕ)) (source : Source) (status : Status) → commanded words source (Err status) → Ended status
+commanded_ended words source status (inl h) = subst Ended (sym h.2) (λ w. w, tt)
+commanded_ended words source status (inr h) = let s = always_command h.0.command source h.0.options status h.2 in (s.0, s.1)
 
-always_outcome : (words : List (List ℕ)) (source : Source) → Always (outcome words source)
-always_outcome words source =
-    always_told_or (topic_of (codes "station" ∷ words)) (commanded (codes "station" ∷ words) source) (always_commanded (codes "station" ∷ words) source)
+told_ended : (topic : Option Topic) (next : Stage (List ℕ)) (status : Status) → (next (Err status) → Ended status) → told_or topic next (Err status) → Ended status
+told_ended (Some topic) next status f h = cc
+told_ended None next status f h = f h
+
+always_outcome : (words : List (List ℕ)) (source : Source) (status : Status) → outcome words source (Err status) → Ended status
+always_outcome words source status h =
+    told_ended (topic_of (codes "station" ∷ words)) (commanded (codes "station" ∷ words) source) status (commanded_ended (codes "station" ∷ words) source status) h
 
 -- a run that wrote the text of its stage
 pub ends_text : (stage : Stage (List ℕ)) (text : List ℕ) (out : Written) (status : Status) → stage (Ok text) → Ends (gives text) out status → Ends stage out status

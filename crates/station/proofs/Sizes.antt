@@ -82,7 +82,11 @@ pub total : List ItemView → ℕ
 total [] = 0
 total (item ∷ items) = weight item + total items
 
-total-append : (a b : List ItemView) → total (a ++ b) ≡ total a + total b
+pub total-none : total [] ≡ 0
+unfolding total
+total-none = refl
+
+pub total-append : (a b : List ItemView) → total (a ++ b) ≡ total a + total b
 unfolding total
 total-append [] b = omega arith
 total-append (item ∷ a) b = let h = total-append a b in omega arith
@@ -150,7 +154,7 @@ items_room data_lines (item ∷ items) h =
     let all : span data_lines ≡ span (h.0 ++ h.1 ++ h.2) = ap span h.3 in
     omega (arith, k, i, all, join_span h.1, span-append (h.0 ++ h.1) h.2, span-append h.0 h.1)
 
-abbrev block_items : List BlockView → List ItemView
+abbrev pub block_items : List BlockView → List ItemView
 block_items blocks = flat_map (λ block. block.items) blocks
 
 blocks_room : (all_lines : List (List ℕ)) (blocks : List BlockView) (mode : Mode) → SpellsBlocks all_lines blocks mode
@@ -186,7 +190,7 @@ document_room bytes doc h =
 
 -- ---- what variables have of it
 
-items_least : (items : List ItemView) → length items ≤ total items
+pub items_least : (items : List ItemView) → length items ≤ total items
 unfolding total weight
 items_least [] = omega arith
 items_least (item ∷ items) = let h = items_least items in omega arith
@@ -225,7 +229,7 @@ variables_counted : (items : List ItemView) (names : List (List ℕ)) → total 
 variables_counted items [] h = tt
 variables_counted items (name ∷ names) h = (omega (arith, h, variable_room name items), variables_counted items names h)
 
-counted : (items : List ItemView) → total items < 2 ^ 32 → IsCounted (variables_of items)
+pub counted : (items : List ItemView) → total items < 2 ^ 32 → IsCounted (variables_of items)
 counted items h =
     All-from_recursion (λ (variable : VariableView). length variable.values < 2 ^ 32) (variables_of items) (variables_counted items (names_of items) h)
 

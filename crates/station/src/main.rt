@@ -1,6 +1,8 @@
 //! The program: it reads kernels and observations, and writes what a command asks for.
 #![tactic(auto)]
 
+#[cfg(test)]
+mod excerpt_tests;
 mod files;
 #[cfg(test)]
 mod help_tests;
@@ -10,6 +12,7 @@ mod invert_tests;
 mod made;
 #[cfg(test)]
 mod least_tests;
+mod over;
 #[cfg(test)]
 mod publish_tests;
 mod reading;

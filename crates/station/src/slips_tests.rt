@@ -50,7 +50,7 @@ const WORD_SLIPS: [(&str, &str, &str); 24] = [
     (
         "publis",
         "refused;2;UnknownCommand\n",
-        "the commands are publish residuals normal convert sample invert least",
+        "the commands are publish residuals normal convert sample invert excerpt least",
     ),
     (
         "Publish",

@@ -21,7 +21,10 @@ use crate::files::kernel_document;
 use crate::inputs::{read_inputs, read_opened};
 use crate::made::made_inputs;
 use sk_advice::write_told;
+use crate::over::joined_kernel;
+use sk_checks::NoMemory;
 use sk_commands::convert::convert;
+use sk_commands::excerpt::excerpt;
 use sk_commands::invert::invert;
 use sk_commands::least::least;
 use sk_commands::normal::normal;
@@ -51,6 +54,7 @@ fn command_text<D: Depot>(
         Command::Convert => convert(alloc, request, read_opened(alloc, depot, request)?),
         Command::Sample => sample(alloc, request, made_inputs(alloc, request)?),
         Command::Invert => invert(alloc, request, read_opened(alloc, depot, request)?),
+        Command::Excerpt => excerpt(alloc, request, joined_kernel(alloc, depot, request)?),
         Command::Least => least(alloc, request, read_inputs(alloc, depot, request)?),
     }
 }

@@ -1,10 +1,10 @@
-use Rattle.std.proofs.Common.{◌++◌, ◌∷◌, [], ℕ, List, ap, ◌∙◌}
+use Rattle.std.proofs.Common.{◌++◌, ◌∷◌, [], ℕ, List, ap, ◌∙◌, ◌≡◌}
 use Rattle.std.specs.Prelude.{codes}
 use Rattle.std.specs.List.{flat_map}
 use Rattle.sk_words.specs.declared.tables.Command.{Command}
 use Rattle.sk_words.specs.Request.{uses}
 use Rattle.sk_words.specs.Help.{lines, heading_of, usage_of, option_rows, remarks, command_page}
-use Rattle.sk_words.proofs.Joined.{six_parts}
+use Rattle.sk_words.proofs.Joined.{six_parts, two_parts, five_parts}
 use Rattle.sk_words.proofs.help.command_page.Goals as goal
 
 pub returns : goal.returns

@@ -1,8 +1,10 @@
-use Rattle.std.proofs.Common.{List, ℕ, map}
+use Rattle.std.proofs.Common.{List, ℕ, map, Vec, Global}
 use Rattle.sk_outcome.specs.Seen.{Source, seen_by}
 use Rattle.sk_outcome.specs.Outcome.{requested, outcome_of}
 use Rattle.sk_words.specs.Asked.{Request, request_of}
+use Rattle.sk_words.specs.declared.fault.WordsFault.TheVariants.{NotTaken}
 use Rattle.sk_outcome.proofs.Moves.{may_then}
+use Rattle.station.proofs.Refusals.{takes_words}
 use Rattle.station.proofs.top.asked_text.Goals as goal
 
 pub returns-in-Ok-clause-stage : goal.returns-in-Ok-clause-stage
@@ -12,3 +14,9 @@ returns-in-Ok-clause-stage g c =
     let request : Request = request_of c.in-Ok.request in
     may_then (λ v. v.items) (requested words) (λ (r : Request). outcome_of r.command source r.options) request c.command_text.result
     c.in-Ok.ensures.asked c.command_text.ensures.stage
+
+pub returns-in-Ok-clause-not_taken : goal.returns-in-Ok-clause-not_taken
+returns-in-Ok-clause-not_taken g c =
+    let source : Source = seen_by g.D.Depot.holds g.D.Depot.given g.D.Depot.faults c.args.depot.now c.command_text.new.depot in
+    let request : Request = request_of c.in-Ok.request in
+    λ e. absurd (takes_words (λ (v : Vec ℕ Global). v.items) request.command source request.options NotTaken c.command_text.result c.command_text.ensures.stage e)

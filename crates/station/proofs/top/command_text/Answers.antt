@@ -5,8 +5,9 @@ use Rattle.sk_words.specs.Request.{Options}
 use Rattle.sk_outcome.specs.Stage.{MayAnswer}
 use Rattle.sk_outcome.specs.Seen.{Source, seen_by}
 use Rattle.sk_outcome.specs.Files.{opened_read, inputs_read}
-use Rattle.sk_outcome.specs.Outcome.{outcome_of, publish_of, residuals_of, convert_of, sample_of, invert_of, least_of}
+use Rattle.sk_outcome.specs.Outcome.{outcome_of, publish_of, residuals_of, convert_of, sample_of, invert_of, least_of, excerpt_of}
 use Rattle.sk_outcome.specs.Sample.{made_inputs}
+use Rattle.sk_outcome.specs.Joined.{joined_kernel}
 use Rattle.sk_outcome.proofs.Moves.{may_then}
 use Rattle.station.proofs.top.command_text.Goals as goal
 
@@ -57,3 +58,11 @@ returns-in_ok-read_inputs-in-Least-clause-stage g c =
     let source : Source = seen_by depot.holds depot.given depot.faults c.args.depot.now c.read_inputs-in-Least.new.depot in
     subst (λ (command : Command). MayAnswer (λ (v : Vec ℕ Global). v.items) (outcome_of command source options) c.least.result) c.in-Least.ensures
     (may_then (λ (v : Vec ℕ Global). v.items) (inputs_read source options) (least_of options) c.in_ok-read_inputs-in-Least.field-0 c.least.result c.in_ok-read_inputs-in-Least.ensures.stage c.least.ensures)
+
+pub returns-in_ok-joined_kernel-in-Excerpt-clause-stage : goal.returns-in_ok-joined_kernel-in-Excerpt-clause-stage
+returns-in_ok-joined_kernel-in-Excerpt-clause-stage g c =
+    let depot = g.D.Depot in
+    let options : Options = options_in c.args.request.now in
+    let source : Source = seen_by depot.holds depot.given depot.faults c.args.depot.now c.joined_kernel.new.depot in
+    subst (λ (command : Command). MayAnswer (λ (v : Vec ℕ Global). v.items) (outcome_of command source options) c.excerpt.result) c.in-Excerpt.ensures
+    (may_then (λ (v : Vec ℕ Global). v.items) (joined_kernel source options) (excerpt_of options) c.in_ok-joined_kernel-in-Excerpt.field-0 c.excerpt.result c.in_ok-joined_kernel-in-Excerpt.ensures.stage c.excerpt.ensures)
