@@ -2,7 +2,7 @@
 #![tactic(auto)]
 
 pub mod convert;
-pub mod differences;
+mod differences;
 pub mod excerpt;
 mod inputs;
 pub mod invert;
