@@ -4,7 +4,7 @@ use Rattle.sk_words.specs.declared.tables.OptionName.TheVariants as opt
 use Rattle.sk_words.specs.Asked.{options_in}
 use Rattle.sk_words.specs.Request.{Options, number_or}
 use Rattle.sk_status.specs.declared.status.Status.{Status}
-use Rattle.station.specs.declared.meaning.Meaning.{Meaning}
+use Rattle.sk_commands.specs.declared.meaning.Meaning.{Meaning}
 use Rattle.sk_outcome.specs.Stage.{Stage, ◌>>=◌, MayAnswer}
 use Rattle.sk_outcome.specs.Files.{KernelRead, kernel_meaning, sc_of}
 use Rattle.sk_outcome.specs.Outcome.{normal_of, cut_out}

@@ -1,5 +1,5 @@
 use Rattle.sk_outcome.specs.Files.{KernelRead, kernel_meaning}
-use Rattle.station.specs.declared.meaning.Meaning.{Meaning}
+use Rattle.sk_commands.specs.declared.meaning.Meaning.{Meaning}
 use Rattle.sk_outcome.proofs.Moves.{may_see_as, handed_on}
 use Rattle.sk_commands.proofs.meaning.kernel_meaning.Goals as goal
 

@@ -7,7 +7,7 @@ use Rattle.sk_status.specs.declared.status.Status.{Status}
 use Rattle.sk_outcome.specs.Stage.{Stage, ◌>>=◌, gives}
 use Rattle.sk_outcome.specs.Files.{KernelRead, kernel_pool, kernel_clock, kernel_triples}
 use Rattle.sk_outcome.proofs.Moves.{may_then, may_end_as, handed_on}
-use Rattle.station.specs.declared.meaning.Meaning.{Meaning}
+use Rattle.sk_commands.specs.declared.meaning.Meaning.{Meaning}
 use Rattle.sk_commands.proofs.meaning.meaning_of.Goals as goal
 
 -- the kernel of what a document means
