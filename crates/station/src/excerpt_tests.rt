@@ -5,14 +5,12 @@ use std::alloc::{AllocError, Global};
 use std::test::Fail;
 
 /// Times as numbers and as dates; a list with a date among its values stands one value a line.
-const MIXED: &str =
-    "0 0 1 256 @2000-01-01T12:00:01 1 512 2.5 1 768 @2000-001/12:00:03.5 1";
+const MIXED: &str = "0 0 1 256 @2000-01-01T12:00:01 1 512 2.5 1 768 @2000-001/12:00:03.5 1";
 
 /// A further triple, by a number and by a date.
 const NEXT: &str = "\\begindata\nSCLK01_COEFFICIENTS_99 += ( 512 2.5 1 )\n";
 
-const DATED: &str =
-    "\\begindata\nSCLK01_COEFFICIENTS_99 += ( 512 @2000-jan-01-12:00:02.5 1 )\n";
+const DATED: &str = "\\begindata\nSCLK01_COEFFICIENTS_99 += ( 512 @2000-jan-01-12:00:02.5 1 )\n";
 
 /// Other coefficients and one variable more, with a head and a comment.
 const ANEW: &str =
@@ -171,21 +169,63 @@ fn excerpts_are_refused(rt: HostRuntime) -> Result<(), Fail> {
         ("", "", "0", "1099511627776", 13, "refused;13;BadRange\n"),
         ("", "", "257", "1099511627776", 13, "refused;13;BadRange\n"),
         ("", "", "255", "256", 13, "refused;13;BeforeFirst\n"),
-        ("", "", "256", "9007199254740992", 2, "refused;2;OutOfRange;to\n"),
+        (
+            "",
+            "",
+            "256",
+            "9007199254740992",
+            2,
+            "refused;2;OutOfRange;to\n",
+        ),
         ("", "", "-1", "256", 2, "refused;2;OutOfRange;from\n"),
         (NEXT, many, "256", "256", 2, "refused;2;OutOfRange;over\n"),
         (NEXT, "v,,w", "256", "256", 2, "refused;2;OutOfRange;over\n"),
         (NEXT, ",v", "256", "256", 2, "refused;2;OutOfRange;over\n"),
         (NEXT, "v,", "256", "256", 2, "refused;2;OutOfRange;over\n"),
-        (open, "v", "256", "256", 14, "refused;14;1;Grammar;2;Unfinished\n"),
-        (open, "w,v", "5", "4", 14, "refused;14;2;Grammar;2;Unfinished\n"),
-        (open, "v,z", "5", "4", 14, "refused;14;1;Grammar;2;Unfinished\n"),
+        (
+            open,
+            "v",
+            "256",
+            "256",
+            14,
+            "refused;14;1;Grammar;2;Unfinished\n",
+        ),
+        (
+            open,
+            "w,v",
+            "5",
+            "4",
+            14,
+            "refused;14;2;Grammar;2;Unfinished\n",
+        ),
+        (
+            open,
+            "v,z",
+            "5",
+            "4",
+            14,
+            "refused;14;1;Grammar;2;Unfinished\n",
+        ),
         (open, "z,v", "5", "4", 7, "refused;7;Over;1\n"),
         (open, "w,z,v", "5", "4", 7, "refused;7;Over;2\n"),
         // Items are counted over all files; what they mean is judged before the range.
         (mixed, "w,v", "5", "4", 4, "refused;4;Pool;AppendMixed;12\n"),
-        (barycentric, "v", "5", "4", 4, "refused;4;Clock;Barycentric\n"),
-        (early, "w,v", "5", "4", 4, "refused;4;Triples;OutOfOrder;2\n"),
+        (
+            barycentric,
+            "v",
+            "5",
+            "4",
+            4,
+            "refused;4;Clock;Barycentric\n",
+        ),
+        (
+            early,
+            "w,v",
+            "5",
+            "4",
+            4,
+            "refused;4;Triples;OutOfOrder;2\n",
+        ),
     ];
     for (v, over, from, to, code, line) in table {
         let held = files_of(alloc, "256 1 1", v, "\\begindata\nA = 1\n")?;
