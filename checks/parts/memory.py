@@ -129,8 +129,8 @@ def spaces(report, name, words, sizes):
         if end.status == 0:
             return report.is_done(f"{name} in {size} bytes", end, wanted)
         begun = begun or end.status != NOT_LOADED
-        if begun:
-            report.is_refused(f"{name} in {size} bytes", end, "refused;9;Memory")
+        if begun and not report.is_refused(f"{name} in {size} bytes", end, "refused;9;Memory"):
+            return False
     return report.check(f"{name} is done in the end", False, end)
 
 
