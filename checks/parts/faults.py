@@ -22,7 +22,7 @@ COMMANDS = {  # each command, and what it writes by the files of texts.py where 
     "invert": ("invert --kernel=k --sc=99 --time=tdt:5", b"1/0000000005.000;1280;5.000000000000\n"),
     "sample": ("sample --seed=0 --count=2", b"sample;0;2;0;71066000;0\n"),
     "excerpt": ("excerpt --kernel=k --over=k --sc=99 --from=0 --to=600", None),
-    "least": ("least --kernel=k --obs=o --sc=99", None),
+    "least": ("least --leap=l --kernel=k --obs=o --sc=99", None),
     "help": ("help", None),
     "version": ("--version", None),
 }
