@@ -16,12 +16,7 @@ use sk_words::Request;
 use std::alloc::Global;
 
 /// The document of the part that the range needs.
-fn cut_out(
-    alloc: Global,
-    doc: Doc,
-    kernel: &Kernel<'_>,
-    range: TickRange,
-) -> Result<Doc, Status>
+fn cut_out(alloc: Global, doc: Doc, kernel: &Kernel<'_>, range: TickRange) -> Result<Doc, Status>
     requires pool { kernel.now.pool.now ≡ variables_of (items_of doc) }
     requires sc { kernel.now.sc ≤ 999_999_999 }
     requires triples { AreTriplesOf kernel.now.pool.now kernel.now.clock.now kernel.now.sc kernel.now.triples.now }

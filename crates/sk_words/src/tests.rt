@@ -433,7 +433,12 @@ fn a_sample_needs_a_seed_and_a_count(rt: HostRuntime) -> Result<(), Fail> {
         ("--seed=0", "--count=0", "OutOfRange", "count"),
         ("--seed=0", "--count=100001", "OutOfRange", "count"),
         ("--seed=4294967295", "--count=100000", "Taken", ""),
-        ("--seed=0000000000000000", "--count=0000000000000001", "Taken", ""),
+        (
+            "--seed=0000000000000000",
+            "--count=0000000000000001",
+            "Taken",
+            "",
+        ),
     ];
     for (place, (first, second, cause, name)) in table.iter().enumerate() {
         let words = ["station", "sample", *first, *second];

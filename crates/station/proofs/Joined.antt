@@ -28,8 +28,7 @@ pub over_more : (source : Source) (place : ℕ) (names : List (List ℕ)) (name 
     → over_documents source place (names ++ name ∷ []) (Ok (docs ++ doc ∷ []))
 over_more source place [] name docs doc h k =
     let none : docs ≡ [] = cc in
-    let here : place + 0 ≡ place = omega arith in
-    (
+    let here : place + 0 ≡ place = omega arith in (
       doc,
       subst (λ (p : ℕ). document source (Over p) name (Ok doc)) here k,
       ([], refl, ap (λ (ds : List DocView). Ok (ds ++ doc ∷ [])) none),

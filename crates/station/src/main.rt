@@ -9,9 +9,9 @@ mod help_tests;
 mod inputs;
 #[cfg(test)]
 mod invert_tests;
-mod made;
 #[cfg(test)]
 mod least_tests;
+mod made;
 mod over;
 #[cfg(test)]
 mod publish_tests;

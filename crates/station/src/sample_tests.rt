@@ -22,11 +22,46 @@ fn samples_are_published(rt: HostRuntime) -> Result<(), Fail> {
     let narrow = "--tol-ns=1";
     let nine = "--rate-decimals=9";
     let table: [(&str, &str, &str, &str, &str, &str); 10] = [
-        ("--seed=0", "--count=1", "", "", "", "sample;0;1;0;846000;0\n"),
-        ("--seed=0", "--count=2", "", "", "", "sample;0;2;0;71066000;0\n"),
-        ("--seed=1", "--count=1", "", "", "", "sample;1;1;0;63671000;0\n"),
-        ("--seed=0", "--count=3", narrow, "", "", "sample;0;3;3;66;51200\n"),
-        ("--seed=3", "--count=10", wide, "", "", "sample;3;10;0;175907000;0\n"),
+        (
+            "--seed=0",
+            "--count=1",
+            "",
+            "",
+            "",
+            "sample;0;1;0;846000;0\n",
+        ),
+        (
+            "--seed=0",
+            "--count=2",
+            "",
+            "",
+            "",
+            "sample;0;2;0;71066000;0\n",
+        ),
+        (
+            "--seed=1",
+            "--count=1",
+            "",
+            "",
+            "",
+            "sample;1;1;0;63671000;0\n",
+        ),
+        (
+            "--seed=0",
+            "--count=3",
+            narrow,
+            "",
+            "",
+            "sample;0;3;3;66;51200\n",
+        ),
+        (
+            "--seed=3",
+            "--count=10",
+            wide,
+            "",
+            "",
+            "sample;3;10;0;175907000;0\n",
+        ),
         (
             "--seed=5",
             "--count=40",
@@ -86,8 +121,24 @@ fn samples_are_published(rt: HostRuntime) -> Result<(), Fail> {
 fn samples_are_refused(rt: HostRuntime) -> Result<(), Fail> {
     let alloc = rt.alloc();
     let table: [(&str, &str, &str, &str, &str, u8, &str); 6] = [
-        ("--seed=0", "", "", "", "", 2, "refused;2;NeedOption;count\n"),
-        ("", "--count=0", "", "", "", 2, "refused;2;NeedOption;seed\n"),
+        (
+            "--seed=0",
+            "",
+            "",
+            "",
+            "",
+            2,
+            "refused;2;NeedOption;count\n",
+        ),
+        (
+            "",
+            "--count=0",
+            "",
+            "",
+            "",
+            2,
+            "refused;2;NeedOption;seed\n",
+        ),
         (
             "--seed=0",
             "--count=0",
@@ -171,9 +222,9 @@ fn an_output_that_fails_has_a_prefix_of_the_line(rt: HostRuntime) -> Result<(), 
     let status = run(alloc, &words, &mut depot, &mut out, &mut notes);
     assert_eq!(rt; out.written(), b"sample;0;2".as_slice());
     assert_eq!(rt;
-            first_line(notes.written()),
-            b"refused;8;Write\n".as_slice()
-        );
+        first_line(notes.written()),
+        b"refused;8;Write\n".as_slice()
+    );
     assert_eq!(rt; status.code(), 8);
     Ok(())
 }
