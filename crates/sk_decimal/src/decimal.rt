@@ -1,9 +1,9 @@
-ghost use Rattle.std.specs.Prelude.{◌≡◌, ◌≤◌, ◌++◌, SomeIff, OnOk, OnErr};
+ghost use Rattle.std.specs.Prelude.{◌≡◌, ◌≤◌, ◌^◌, ◌++◌, pos, neg_ℤ, ◌*ℤ◌, ◌≤ℤ◌, SomeIff, OnOk, OnErr};
 ghost use Rattle.sk_decimal.specs.Number.{plain_spelling};
 ghost use Rattle.sk_decimal.specs.Fixed.{FitsWide, units_of};
 
 use crate::fixed::Fixed;
-use crate::printing::{append, plain_text};
+use crate::printing::print;
 use sk_checks::NoMemory;
 use std::marker::Model;
 use thiserror::Error;
@@ -37,6 +37,34 @@ pub enum NumberFault {
     TooWide,
 }
 
+/// Sizes up to this one have products with 10^18 that stay in i128.
+const SHORT: i128 = 10_000_000_000_000_000_000;
+
+/// A short size times a number.
+fn short_product(size: i128, number: u64) -> i128
+    requires from { neg_ℤ (pos (10 ^ 19)) ≤ℤ size }
+    requires to { size ≤ℤ pos (10 ^ 19) }
+    requires number { number ≤ 10 ^ 18 }
+    ensures value { result ≡ size *ℤ pos number }
+    ensures from { neg_ℤ (pos (10 ^ 37)) ≤ℤ result }
+    ensures to { result ≤ℤ pos (10 ^ 37) }
+{
+    size * number as i128
+}
+
+/// The size times a power of ten; `None` exactly where the product passes i128.
+fn times_power(size: i128, places: u32) -> Option<i128>
+    requires { places ≤ 18 }
+    ensures { SomeIff result (FitsWide (size *ℤ pos (10 ^ places))) (size *ℤ pos (10 ^ places)) }
+{
+    let power = 10u64.pow(places);
+    // Most numbers are short, and a checked product of 128 bits costs ten plain ones.
+    if -SHORT <= size && size <= SHORT {
+        return Some(short_product(size, power));
+    }
+    size.checked_mul(i128::from(power))
+}
+
 impl Decimal {
     ghost use Rattle.std.specs.Prelude.{◌≡◌};
     ghost use Rattle.sk_decimal.specs.Number.{DecimalView, IsDecimal};
@@ -63,7 +91,7 @@ impl Decimal {
         ensures ok { OnOk result (out.new.items ≡ out.old.items ++ plain_spelling self.now) }
         ensures err { OnErr result (out.new.items ≡ out.old.items) }
     {
-        append(out, &plain_text(self.coefficient, self.scale))
+        print(out, self.coefficient, self.scale)
     }
 
     /// The same value with exactly `S` decimals; `None` exactly where it has more, or its units pass i128.
@@ -74,7 +102,7 @@ impl Decimal {
         if self.scale > S {
             return None;
         }
-        match self.coefficient.checked_mul(10i128.pow(S - self.scale)) {
+        match times_power(self.coefficient, S - self.scale) {
             Some(units) => Some(Fixed { units }),
             None => None,
         }

@@ -5,7 +5,7 @@ ghost use Rattle.sk_decimal.specs.Fixed.{fixed_text, FitsWide, HasUnits};
 
 use crate::decimal::Decimal;
 use crate::placing::decimal_over;
-use crate::printing::{append, plain_text};
+use crate::printing::print;
 use sk_checks::NoMemory;
 
 /// A number with exactly `S` decimals, S at most 18: units / 10 ^ S.
@@ -42,6 +42,6 @@ impl<const S: u32> Fixed<S> {
         ensures ok { OnOk result (out.new.items ≡ out.old.items ++ fixed_text S self.now.units) }
         ensures err { OnErr result (out.new.items ≡ out.old.items) }
     {
-        append(out, &plain_text(self.units, S))
+        print(out, self.units, S)
     }
 }

@@ -3,6 +3,7 @@
 
 mod decimal;
 mod division;
+mod ending;
 mod fixed;
 mod laws;
 mod line;

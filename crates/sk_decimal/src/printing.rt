@@ -1,8 +1,9 @@
 //! Plain spellings as text.
 
-ghost use Rattle.std.specs.Prelude.{◌≡◌, ◌≤◌, ◌+◌, ◌/◌, ◌^◌, ◌++◌, length, OnOk, OnErr, decimal};
-ghost use Rattle.sk_decimal.specs.Number.{fraction_digits, plain_spelling};
+ghost use Rattle.std.specs.Prelude.{◌≡◌, ◌≤◌, ◌<◌, ◌+◌, ◌/◌, ◌%◌, ◌^◌, ◌==◌, ◌++◌, [], length, OnOk, OnErr, codes, decimal, cond};
+ghost use Rattle.sk_decimal.specs.Number.{fraction_digits, padded_decimal, plain_spelling};
 
+use crate::ending::Ending;
 use crate::line::Line;
 use sk_checks::NoMemory;
 
@@ -32,8 +33,8 @@ fn push_size(line: &mut Line, places: u32, size: u128)
     }
 }
 
-/// The plain spelling of units / 10 ^ places.
-pub fn plain_text(units: i128, places: u32) -> Line
+// The plain spelling of units / 10 ^ places.
+fn plain_text(units: i128, places: u32) -> Line
     requires { places ≤ 38 }
     ensures { result ≡ plain_spelling (record { coefficient = units; scale = places }) }
 {
@@ -45,12 +46,59 @@ pub fn plain_text(units: i128, places: u32) -> Line
     line
 }
 
-/// Appends the text.
-pub fn append(out: &mut Vec<u8>, line: &Line) -> Result<(), NoMemory>
-    ensures ok { OnOk result (out.new.items ≡ out.old.items ++ line.now) }
+// The whole part and the rest; by 64 bits where the size has no more: wide quotients cost more.
+fn divided(size: u128, scale: u64) -> (u128, u64)
+    requires { 0 < scale }
+    ensures whole { result.0 ≡ size / scale }
+    ensures rest { result.1 ≡ size % scale }
+{
+    if size <= u128::from(u64::MAX) {
+        let size = size as u64;
+        return (u128::from(size / scale), size % scale);
+    }
+    let whole = size / u128::from(scale);
+    (whole, (size - whole * u128::from(scale)) as u64)
+}
+
+// Puts the text of a number of these parts in front.
+fn push_parts(text: &mut Ending, negative: bool, places: u32, whole: u64, rest: u64)
+    requires places { places < 20 }
+    requires empty { text.old ≡ [] }
+    ensures { text.new ≡ cond negative (codes "-") [] ++ decimal whole ++ cond (places == 0) [] (codes "." ++ padded_decimal places rest) }
+{
+    if places > 0 {
+        text.push_padded(places as usize, rest);
+        text.push(b'.');
+    }
+    text.push_number(whole);
+    if negative {
+        text.push(b'-');
+    }
+}
+
+/// Appends the plain spelling of units / 10 ^ places.
+pub fn print(out: &mut Vec<u8>, units: i128, places: u32) -> Result<(), NoMemory>
+    requires { places ≤ 38 }
+    ensures ok { OnOk result (out.new.items ≡ out.old.items ++ plain_spelling (record { coefficient = units; scale = places })) }
     ensures err { OnErr result (out.new.items ≡ out.old.items) }
 {
-    let Ok(()) = out.extend_from_slice(line.as_slice()) else {
+    if places < 20 {
+        let (whole, rest) = divided(units.unsigned_abs(), 10u64.pow(places));
+        if whole <= u128::from(u64::MAX) {
+            let mut text = Ending::new();
+            push_parts(&mut text, units < 0, places, whole as u64, rest);
+            return append(out, text.as_slice());
+        }
+    }
+    append(out, plain_text(units, places).as_slice())
+}
+
+// Appends the text.
+fn append(out: &mut Vec<u8>, text: &[u8]) -> Result<(), NoMemory>
+    ensures ok { OnOk result (out.new.items ≡ out.old.items ++ text.now) }
+    ensures err { OnErr result (out.new.items ≡ out.old.items) }
+{
+    let Ok(()) = out.extend_from_slice(text) else {
         return Err(NoMemory);
     };
     Ok(())
