@@ -51,11 +51,11 @@ pub fn read_record(
         Ok(time) => time,
         Err(fault) => return Err(fault),
     };
-    let Ok(id) = Vec::from_slice(alloc, id) else {
+    let Ok(id) = Bytes::copied(alloc, id) else {
         return Err(ObsFault::NoMemory);
     };
     Ok(Observation {
-        id: Bytes::from_vec(id),
+        id,
         number,
         tick,
         time,
