@@ -106,16 +106,30 @@ impl Clock {
         tick - earlier[place] + partitions[place].start
     }
 
-    /// The partition's number, `/`, and the fields of the count.
-    fn text_in(&self, alloc: Global, partition: u32, count: u64) -> Result<String, NoMemory>
+    /// Appends the partition's number, `/`, and the fields of the count.
+    fn push_parts(&self, text: &mut String, partition: u32, count: u64) -> Result<(), NoMemory>
         requires { count < 2 ^ 54 }
-        ensures { IfOk result (λ text. string_bytes text ≡ text_in_of self.now partition count) }
+        ensures { OnOk result (string_bytes text.new ≡ string_bytes text.old ++ text_in_of self.now partition count) }
     {
-        let mut text = String::with_capacity(alloc, 32)?;
         text.push_str(Buffer::new().format(partition))?;
         text.push('/')?;
-        push_fields(&mut text, self.fields.as_slice(), self.delimiter, count)?;
-        Ok(text)
+        push_fields(text, self.fields.as_slice(), self.delimiter, count)?;
+        Ok(())
+    }
+
+    /// Appends the canonical text of a tick.
+    pub fn push_text(&self, text: &mut String, tick: u64) -> Result<(), TextFault>
+        ensures answer { JudgesUnless TextFault.NoMemory (tick_checks self.now tick) (λ _. string_bytes text.new ≡ string_bytes text.old ++ clock_text self.now tick) result }
+        ensures clock { OnOk result (IsClock self.now) }
+    {
+        let Some(partition) = self.partition_at(tick) else {
+            return Err(TextFault::PastPartitions);
+        };
+        let count = self.count_in(partition, tick);
+        let Ok(()) = self.push_parts(text, partition, count) else {
+            return Err(TextFault::NoMemory);
+        };
+        Ok(())
     }
 
     /// The canonical text of a tick.
@@ -123,13 +137,12 @@ impl Clock {
         ensures answer { JudgesUnless TextFault.NoMemory (tick_checks self.now tick) (λ text. string_bytes text ≡ clock_text self.now tick) result }
         ensures read { IfOk result (λ text. NoneRefuses (text_checks self.now (string_bytes text)) × StandsFor self.now (string_bytes text) tick) }
     {
-        let Some(partition) = self.partition_at(tick) else {
-            return Err(TextFault::PastPartitions);
-        };
-        let count = self.count_in(partition, tick);
-        let Ok(text) = self.text_in(alloc, partition, count) else {
+        let Ok(mut text) = String::with_capacity(alloc, 32) else {
             return Err(TextFault::NoMemory);
         };
-        Ok(text)
+        match self.push_text(&mut text, tick) {
+            Ok(()) => Ok(text),
+            Err(fault) => Err(fault),
+        }
     }
 }

@@ -5,8 +5,9 @@ ghost use Rattle.sk_decimal.specs.Fixed.{fixed_text};
 ghost use Rattle.sk_report.specs.Line.{line_with};
 
 use crate::times::Timed;
+use itoa::Buffer;
 use sk_checks::NoMemory;
-use sk_decimal::{Fixed, Line};
+use sk_decimal::Fixed;
 use sk_obs::Observation;
 
 // Appends the id, the clock text and the observed time, each with `;` behind it.
@@ -26,10 +27,8 @@ fn print_reading(out: &mut Vec<u8>, observation: &Observation, text: &str) -> Re
 fn print_number(out: &mut Vec<u8>, place: usize) -> Result<(), NoMemory>
     ensures { OnOk result (out.new.items ≡ out.old.items ++ decimal (place + 1) ++ 59 ∷ []) }
 {
-    let mut text = Line::new();
-    text.push_number(place as u128 + 1);
-    text.push(b";");
-    out.extend_from_slice(text.as_slice())?;
+    out.extend_from_slice(Buffer::new().format(place as u128 + 1).as_bytes())?;
+    out.push(b';')?;
     Ok(())
 }
 

@@ -37,10 +37,11 @@ fn head_line(alloc: Global, count: usize) -> Result<Lines, NoMemory>
     Ok(lines)
 }
 
-// Puts the line of an observation of this kind and end in place of what `line` holds.
+// Puts the line of an observation of this kind and end in place of what `line` holds, and its clock text in place of
+// what `text` holds.
 fn write_row(
     line: &mut Vec<u8>,
-    alloc: Global,
+    text: &mut String,
     triples: &Triples,
     clock: &Clock,
     observation: &Observation,
@@ -58,7 +59,8 @@ fn write_row(
         Ok(timed) => timed,
         Err(fault) => return Err(ReportFault::Range(observation.number, fault)),
     };
-    let Ok(text) = clock.text_of(alloc, tick) else {
+    text.clear();
+    let Ok(()) = clock.push_text(text, tick) else {
         return Err(ReportFault::NoMemory);
     };
     let Ok(()) = write_line(line, observation, text.as_str(), timed, kind, ended) else {
@@ -84,14 +86,15 @@ fn with_rows(
     ensures known { IfOk result (λ _. All (IsLined clock.now) observations.now) }
 {
     let mut lines = head;
-    // One line at a time stands here, so that its room is taken once.
+    // One line at a time stands here, and its clock text, so that their room is taken once.
     let mut line = Vec::new(alloc);
+    let mut text = String::new(alloc);
     for (place, observation) in observations.iter().enumerate() {
         let kind = kind_at(marks, place);
         let ended = end_at(observations, marks, place);
         if let Err(fault) = write_row(
             &mut line,
-            alloc,
+            &mut text,
             triples,
             clock,
             observation,

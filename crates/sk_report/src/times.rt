@@ -25,18 +25,15 @@ pub fn time_of(triples: &Triples, clock: &Clock, tick: u64) -> Result<Timed, Ran
     ensures to { IfOk result (λ t. t.time.units ≤ℤ pos (10 ^ 33)) }
     ensures clock { IfOk result (λ _. IsClock clock.now) }
 {
-    let time = match triples.time_at(tick) {
-        Ok(time) => time,
+    let found = match triples.placed_time_at(tick) {
+        Ok(found) => found,
         Err(fault) => return Err(fault),
-    };
-    let Some(place) = triples.covering(tick) else {
-        return Err(RangeFault::BeforeFirst);
     };
     let per_second = clock.ticks_per() as i128 * 1_000_000;
     Ok(Timed {
         time: Fixed {
-            units: floor_div(time.num, per_second),
+            units: floor_div(found.1.num, per_second),
         },
-        place,
+        place: found.0,
     })
 }

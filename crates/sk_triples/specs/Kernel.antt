@@ -1,11 +1,11 @@
 -- The triples of a kernel as contracts see them, and what calls on them answer.
-use Rattle.std.specs.Prelude.{◌≡◌, ℕ, ◌-◌, ◌*◌, ◌^◌, ◌<◌, ◌≤◌, ℤ, pos, neg_ℤ, ◌≤ℤ◌, ◌<ℤ◌, List, [], ◌∷◌, length, Some, None, slice_get}
+use Rattle.std.specs.Prelude.{◌≡◌, ℕ, ◌+◌, ◌-◌, ◌*◌, ◌^◌, ◌<◌, ◌≤◌, ℤ, pos, neg_ℤ, ◌≤ℤ◌, ◌<ℤ◌, List, [], ◌∷◌, length, Some, None, slice_get}
 use Rattle.std.specs.List.{AllByRecursion}
 use Rattle.std.specs.Int.{IsInRange}
 use Rattle.sk_checks.specs.Checks.{Check, ◌⇒◌}
 use Rattle.sk_clock.specs.Clock.{ClockView, ticks_per, total}
 use Rattle.sk_line.specs.Triple.{TripleView}
-use Rattle.sk_line.specs.Line.{covering, fall_over}
+use Rattle.sk_line.specs.Line.{covering, fall_over, line_over}
 use Rattle.sk_triples.specs.declared.triple.RangeFault.{RangeFault}
 use Rattle.sk_triples.specs.declared.triple.RangeFault.TheVariants.{BeforeFirst, PastPartitions}
 
@@ -61,6 +61,11 @@ range_checks t tick =
     (covering t.triples tick ≡ None) ⇒ BeforeFirst
     ∷ (t.total < tick) ⇒ PastPartitions
     ∷ []
+
+-- the triple at this place, from 0, covers the tick, and its line is there at this time, over the ticks per count
+abbrev pub IsPlacedTime : TriplesView → ℕ → ℕ → ℤ → Type 0
+IsPlacedTime t tick place over =
+    (triple : TripleView) × (covering t.triples tick ≡ Some (place + 1, triple)) × (over ≡ line_over t.per_count triple.anchor triple.rate tick)
 
 -- ---- falls
 

@@ -1,6 +1,6 @@
 //! The triple of a tick.
 
-ghost use Rattle.std.specs.Prelude.{◌≡◌, ◌≤◌, ◌↔◌, ◌+◌, ℕ, List, Some, length, option_map};
+ghost use Rattle.std.specs.Prelude.{◌≡◌, ◌≤◌, ◌↔◌, ◌+◌, ℕ, List, Some, None, length, MatchOption};
 ghost use Rattle.sk_line.specs.Triple.{TripleView};
 ghost use Rattle.sk_line.specs.Line.{covering, begun_at};
 ghost use Rattle.sk_triples.specs.Kernel.{AreTriples, IsCovering, Rise};
@@ -16,14 +16,14 @@ pub fn begun(triples: &[Triple], tick: u64) -> usize
     triples.partition_point(|triple| triple.ticks <= tick)
 }
 
-/// The triple that covers a tick.
-pub fn covering_triple(triples: &[Triple], tick: u64) -> Option<Triple>
+/// The triple that covers a tick, and its place.
+pub fn covering_triple(triples: &[Triple], tick: u64) -> Option<(usize, Triple)>
     requires { Rise triples.now }
-    ensures { result ≡ option_map (λ found. found.1) (covering triples.now tick) }
+    ensures { MatchOption result (covering triples.now tick ≡ None) (λ found. covering triples.now tick ≡ Some (found.0 + 1, found.1)) }
 {
     match begun(triples, tick) {
         0 => None,
-        number => Some(triples[number - 1]),
+        number => Some((number - 1, triples[number - 1])),
     }
 }
 

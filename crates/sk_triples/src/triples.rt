@@ -55,7 +55,7 @@ fn coefficients_name(sc: u32) -> Line
 impl Triples {
     ghost use Rattle.sk_triples.specs.Coefficients.{triples_checks, AreTriplesOf};
     ghost use Rattle.sk_line.specs.Line.{covering as covering_of, IsTimeAt, FallsOver, IsFirstFall};
-    ghost use Rattle.sk_triples.specs.Kernel.{range_checks, AreKept, AreTriples, HasFall};
+    ghost use Rattle.sk_triples.specs.Kernel.{range_checks, IsPlacedTime, AreKept, AreTriples, HasFall};
 
     /// The triples of the spacecraft with the number -sc, on its clock.
     pub fn of(alloc: Global, pool: &Pool, clock: &Clock, sc: u32) -> Result<Triples, TriplesFault>
@@ -100,20 +100,31 @@ impl Triples {
         begun(self.list.as_slice(), tick).checked_sub(1)
     }
 
-    /// The time of a tick, over the ticks per count.
-    pub fn time_at(&self, tick: u64) -> Result<Ratio, RangeFault>
-        ensures { Judges (range_checks self.now tick) (λ time. IsTimeAt self.now.per_count self.now.triples tick time.num × (time.den ≡ pos self.now.per_count)) result }
+    /// The place, from 0, of the triple that covers a tick, and the time of the tick, over the ticks per count.
+    pub fn placed_time_at(&self, tick: u64) -> Result<(usize, Ratio), RangeFault>
+        ensures { Judges (range_checks self.now tick) (λ found. IsPlacedTime self.now tick found.0 found.1.num × (found.1.den ≡ pos self.now.per_count)) result }
     {
-        let Some(triple) = covering_triple(self.list.as_slice(), tick) else {
+        let Some(found) = covering_triple(self.list.as_slice(), tick) else {
             return Err(RangeFault::BeforeFirst);
         };
         if tick > self.total {
             return Err(RangeFault::PastPartitions);
         }
-        Ok(Ratio {
-            num: line_over(self.ticks_per, triple, tick),
+        let time = Ratio {
+            num: line_over(self.ticks_per, found.1, tick),
             den: self.ticks_per as i128,
-        })
+        };
+        Ok((found.0, time))
+    }
+
+    /// The time of a tick, over the ticks per count.
+    pub fn time_at(&self, tick: u64) -> Result<Ratio, RangeFault>
+        ensures { Judges (range_checks self.now tick) (λ time. IsTimeAt self.now.per_count self.now.triples tick time.num × (time.den ≡ pos self.now.per_count)) result }
+    {
+        match self.placed_time_at(tick) {
+            Ok(found) => Ok(found.1),
+            Err(fault) => Err(fault),
+        }
     }
 
     /// These triples and then more.

@@ -1,29 +1,7 @@
-use Rattle.std.proofs.Common.{◌≡◌, ℕ, List, Some, ap, sym, subst, arith, ◌∙◌}
-use Rattle.std.proofs.lemmas.Int.{ints}
-use Rattle.std.proofs.lemmas.Option.{none-some}
-use Rattle.sk_line.specs.Triple.{TripleView}
-use Rattle.sk_line.specs.Line.{covering, line_over}
-use Rattle.sk_triples.specs.Kernel.{TriplesView, AreTriples}
-use Rattle.sk_triples.proofs.Covering.{found_of, kept_at}
-use Rattle.sk_triples.proofs.Wide.{passed_on}
+use Rattle.std.proofs.Common.{◌+◌}
 use Rattle.sk_triples.proofs.triples.Triples.time_at.Goals as goal
 
-pub line_over-requires-clause-triple : goal.line_over-requires-clause-triple
-line_over-requires-clause-triple c =
-    let same : c.as_slice.result.now ≡ c.self.inside.list.items = c.as_slice.ensures.value in
-    let found = found_of (covering c.as_slice.result.now c.args.tick) c.in-Some.triple c.in-Some.ensures in
-    kept_at c.self.inside.total c.args.tick c.as_slice.result.now found.0 c.in-Some.triple (subst (AreTriples c.self.inside.total) (sym same) c.self.invariant.triples) found.1
-
-pub returns : goal.returns
-returns c =
-    let view = c.self.view_is in
-    let same : c.as_slice.result.now ≡ c.args.self.now.triples = c.as_slice.ensures.value ∙ ap (λ (t : TriplesView). t.triples) view in
-    let count : c.self.inside.ticks_per ≡ c.args.self.now.per_count = ap (λ (t : TriplesView). t.per_count) view in
-    let total : c.self.inside.total ≡ c.args.self.now.total = ap (λ (t : TriplesView). t.total) view in
-    let found = found_of (covering c.as_slice.result.now c.args.tick) c.in-Some.triple c.in-Some.ensures in
-    let covers : covering c.args.self.now.triples c.args.tick ≡ Some (found.0, c.in-Some.triple) = subst (λ (ts : List TripleView). covering ts c.args.tick ≡ Some (found.0, c.in-Some.triple)) same found.1 in
-    let num = passed_on c.line_over.result c.line_over.type_inv ∙ c.line_over.ensures.value
-    ∙ ap (λ (n : ℕ). line_over n c.in-Some.triple.anchor c.in-Some.triple.rate c.args.tick) count in (
-      ((λ none. none-some (found.0, c.in-Some.triple) (sym none ∙ covers)), ((λ past. omega arith), tt)),
-      ((found.0, c.in-Some.triple, covers, num), omega (arith, ints)),
-    )
+pub returns-in-Ok : goal.returns-in-Ok
+returns-in-Ok c =
+    let timed = c.in-Ok.ensures.1 in
+    (c.in-Ok.ensures.0, ((c.in-Ok.found.0 + 1, timed.0.0, timed.0.1, timed.0.2), timed.1))
