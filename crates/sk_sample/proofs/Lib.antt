@@ -1,1 +1,5 @@
 mod Walks
+mod Plain
+mod Rows
+mod Checked
+mod Passed

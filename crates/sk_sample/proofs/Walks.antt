@@ -1,8 +1,8 @@
--- How far the walk goes, and one record more.
-use Rattle.std.proofs.Common.{◌≡◌, ℕ, zero, suc, ◌+◌, ◌*◌, ◌%◌, ◌^◌, ◌<◌, ◌≤◌, List, ◌++◌, refl, subst, arith, codes, sym, ◌∙◌, ap, append_assoc}
+-- How far the walk goes, and one step more.
+use Rattle.std.proofs.Common.{◌≡◌, ℕ, zero, suc, ◌+◌, ◌*◌, ◌%◌, ◌^◌, ◌<◌, ◌≤◌, refl, subst, sym, arith, ◌∙◌, ap}
 use Rattle.std.specs.Prelude.{ℤ, pos, negsuc, neg_ℤ, ◌+ℤ◌, ◌-ℤ◌, ◌≤ℤ◌}
 use Rattle.std.proofs.lemmas.Int.{ints}
-use Rattle.sk_sample.specs.Sample.{drawn, walk, observed_time, record_text, records, observations_text}
+use Rattle.sk_sample.specs.Sample.{drawn, walk, observed_time}
 
 -- no step is longer than a tenth of a millisecond
 step : (w : ℤ) (x k : ℕ) → x < 200001 → neg_ℤ (pos (100000 * k)) ≤ℤ w → w ≤ℤ pos (100000 * k)
@@ -27,29 +27,27 @@ far seed k few = wide (walk seed k) k few (within seed k).0 (within seed k).1
 
 -- ---- one more
 
-pub drawn_more : (seed k : ℕ) → drawn seed (k + 1) ≡ (drawn seed k * 1664525 + 1013904223) % 2 ^ 32
+drawn_more : (seed k : ℕ) → drawn seed (k + 1) ≡ (drawn seed k * 1664525 + 1013904223) % 2 ^ 32
 drawn_more seed k =
     let next : suc k ≡ k + 1 = omega arith in
     subst (λ (n : ℕ). drawn seed n ≡ (drawn seed k * 1664525 + 1013904223) % 2 ^ 32) next refl
 
-pub walk_more : (seed k : ℕ) → walk seed (k + 1) ≡ walk seed k +ℤ (pos (drawn seed (k + 1) % 200001) -ℤ pos 100000)
+walk_more : (seed k : ℕ) → walk seed (k + 1) ≡ walk seed k +ℤ (pos (drawn seed (k + 1) % 200001) -ℤ pos 100000)
 walk_more seed k =
     let next : suc k ≡ k + 1 = omega arith in
     subst (λ (n : ℕ). walk seed n ≡ walk seed k +ℤ (pos (drawn seed n % 200001) -ℤ pos 100000)) next refl
 
-pub text_more : (seed k : ℕ) → observations_text seed (k + 1) ≡ observations_text seed k ++ record_text (k + 1) (observed_time seed (k + 1))
-text_more seed k =
-    let next : suc k ≡ k + 1 = omega arith in
-    subst (λ (n : ℕ). observations_text seed n ≡ observations_text seed k ++ record_text n (observed_time seed n)) next
-    (sym (append_assoc (codes "id,clock,time,delay\n") (records seed k) (record_text (suc k) (observed_time seed (suc k)))))
+-- what the next place of the walk is
+pub drawn_next : (seed k before after : ℕ) → before ≡ drawn seed k → after ≡ (before * 1664525 + 1013904223) % 2 ^ 32 → after ≡ drawn seed (k + 1)
+drawn_next seed k before after was is = is ∙ ap (λ (x : ℕ). (x * 1664525 + 1013904223) % 2 ^ 32) was ∙ sym (drawn_more seed k)
 
--- the record of the next observation makes the text of one more
-pub record_more : (seed k number : ℕ) (late units : ℤ) (text more : List ℕ) → number ≡ k + 1 → late ≡ walk seed (k + 1) → units ≡ pos (10 ^ 11 * number) +ℤ late
-    → text ≡ observations_text seed k → more ≡ text ++ record_text number units → more ≡ observations_text seed (k + 1)
-record_more seed k number late units text more counted is_late time so_far added =
-    let observed : units ≡ observed_time seed (k + 1) =
-    time ∙ ap (λ (n : ℕ). pos (10 ^ 11 * n) +ℤ late) counted ∙ ap (λ (z : ℤ). pos (10 ^ 11 * (k + 1)) +ℤ z) is_late in
-    added ∙ ap (λ (t : List ℕ). t ++ record_text number units) so_far
-    ∙ ap (λ (n : ℕ). observations_text seed k ++ record_text n units) counted
-    ∙ ap (λ (z : ℤ). observations_text seed k ++ record_text (k + 1) z) observed
-    ∙ sym (text_more seed k)
+pub late_next : (seed k before after : ℕ) (early late : ℤ) → before ≡ drawn seed k → early ≡ walk seed k → after ≡ (before * 1664525 + 1013904223) % 2 ^ 32
+    → late ≡ early +ℤ (pos (after % 200001) -ℤ pos 100000) → late ≡ walk seed (k + 1)
+late_next seed k before after early late was place is is_late =
+    is_late ∙ ap (λ (z : ℤ). z +ℤ (pos (after % 200001) -ℤ pos 100000)) place
+    ∙ ap (λ (x : ℕ). walk seed k +ℤ (pos (x % 200001) -ℤ pos 100000)) (drawn_next seed k before after was is) ∙ sym (walk_more seed k)
+
+-- the time of the next observation
+pub time_more : (seed k number : ℕ) (late : ℤ) → number ≡ k + 1 → late ≡ walk seed (k + 1) → pos (10 ^ 11 * number) +ℤ late ≡ observed_time seed (k + 1)
+time_more seed k number late counted is =
+    ap (λ (n : ℕ). pos (10 ^ 11 * n) +ℤ late) counted ∙ ap (λ (z : ℤ). pos (10 ^ 11 * (k + 1)) +ℤ z) is

@@ -8,4 +8,4 @@ mod tests;
 mod walk;
 
 pub use kernel::{SPACECRAFT, kernel_text};
-pub use observations::observations_text;
+pub use observations::observations_of;
