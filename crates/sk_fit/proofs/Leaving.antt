@@ -181,16 +181,19 @@ module _ (fit : FitView) (n : ℕ) (row : RowView) (f : FittingView) (next : IsN
         }) ends.so_far
 
     -- or no allowed rate meets the observation
-    pub lacks_rate : (ended : End) (anchor : Line) → CanEndAs fit n row f ended → anchor_of anchor ≡ left_here → NoneMeets t anchor (sight_at 0 row) → LacksRate fit n row f
-    lacks_rate ended anchor ends e none kept dropped h = record {
-      chain = front_of all f ++ ended_as t (open_of all f) (end_view ended) ∷ [];
-      last = ended_as t (open_of all f) (end_view ended);
-      so_far = ends.so_far kept dropped h;
-      is_last = (front_of all f, refl);
-      same_partition = here;
-      none = λ m a met. (let seen = subst (λ (x : Anchor). Meets t.gauge x (on_grid t.gauge.rate_decimals m) o) (sym (due_there anchor e)) met in
-          none m a (record { low = seen.low; high = seen.high }));
-    }
+    pub lacks_rate : (ended : End) (anchor : Line) → CanEndAs fit n row f ended → anchor_of anchor ≡ left_here → NoneMeets t anchor (sight_at 0 row) → LacksRate fit n row ended f
+    lacks_rate ended anchor ends e none kept dropped h = (
+      record {
+        chain = front_of all f ++ ended_as t (open_of all f) (end_view ended) ∷ [];
+        last = ended_as t (open_of all f) (end_view ended);
+        so_far = ends.so_far kept dropped h;
+        is_last = (front_of all f, refl);
+        same_partition = here;
+        none = λ m a met. (let seen = subst (λ (x : Anchor). Meets t.gauge x (on_grid t.gauge.rate_decimals m) o) (sym (due_there anchor e)) met in
+            none m a (record { low = seen.low; high = seen.high }));
+      },
+      refl,
+    )
 
   -- ---- in another partition
 

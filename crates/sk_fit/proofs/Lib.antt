@@ -13,6 +13,7 @@ pub mod Refused
 pub mod SmallClock
 pub mod Beginning
 pub mod Observed
+pub mod Barriers
 pub mod OneAnswer
 pub mod Starting
 pub mod Looping

@@ -26,8 +26,8 @@ goes_on t rows n row f f' here moves h =
     }
 
 pub stops : (t : Terms) (rows : List RowView) (n : ℕ) (row : RowView) (f : FittingView) (fault : FitFault) → slice_get rows n ≡ Some row
-    → is_new t (sight_at n row) ≡ true → IsFitted t rows n f → StopsBy t (sights rows) n (sight_at n row) f row.number fault → StopsAt t rows fault
-stops t rows n row f (NoRate number) here new h s =
+    → is_new t (sight_at n row) ≡ true → IsFitted t rows n f → StopsBy t rows n (sight_at n row) f row.number fault → StopsAt t rows fault
+stops t rows n row f (NoRate number barrier) here new h s =
     let why = s.1 h.kept h.dropped h.fitting in (
       sight_at n row,
       record {
@@ -38,10 +38,11 @@ stops t rows n row f (NoRate number) here new h s =
         kept = h.kept;
         dropped = h.dropped;
         sorts = h.sorts;
-        used_up = why.1;
+        used_up = why.2;
         no_rate = why.0;
       },
       (row, here, s.0),
+      why.1,
     )
 stops t rows n row f (TimeFalls number) here new h s =
     let why = s.1 h.kept h.dropped h.fitting in (

@@ -14,7 +14,10 @@ use Rattle.sk_publishing.specs.Kept.{is_new, IsPublication, StopsAtNoRate, Stops
 use Rattle.sk_triples.specs.Kernel.{HasFall}
 use Rattle.sk_publishing.specs.Input.{Input, HasLast, IsBadHold, IsBandEmpty, Begins, AreTooMany}
 use Rattle.sk_line.proofs.Lists.{Same, First_ends, Second_ends, fronts, heads, tails}
-use Rattle.sk_publishing.proofs.Sorting.{one_publication, one_stop}
+use Rattle.sk_publishing.proofs.Sorting.{one_publication, one_stop, stops_last}
+use Rattle.sk_fit.specs.declared.fault.Barrier.{Barrier}
+use Rattle.sk_fit.specs.Barriers.{IsBarrier}
+use Rattle.sk_fit.proofs.Barriers.{one_barrier}
 use Rattle.sk_fit.specs.declared.chain.Chain.{Chain}
 use Rattle.sk_fit.specs.declared.fault.FitFault.{FitFault}
 use Rattle.sk_fit.specs.declared.fault.FitFault.TheVariants.{BadHold, OldFalls, BandEmpty, NoRate, TimeFalls, TooMany, NoMemory}
@@ -73,7 +76,8 @@ RefusesAt x rows old BadHold = IsBadHold x old
 RefusesAt x rows old (OldFalls fall) = (¬ IsBadHold x old) × IsOldFall x (x.terms old).gauge.per_count fall
 RefusesAt x rows old BandEmpty = (¬ IsBadHold x old)
     × ((i : ℕ) → ¬ FallsOver (x.terms old).gauge.per_count x.triples x.slip i) × IsBandEmpty x old
-RefusesAt x rows old (NoRate number) = Begins x old × ((o : Sight) × StopsAtNoRate (x.terms old) x.all o × IsNumberOf rows o number)
+RefusesAt x rows old (NoRate number barrier) = Begins x old × ((o : Sight) × (stop : StopsAtNoRate (x.terms old) x.all o) × IsNumberOf rows o number
+    × IsBarrier rows stop.no_rate.last.ended barrier)
 RefusesAt x rows old (TimeFalls number) = Begins x old × ((o : Sight) × StopsAtTimeFall (x.terms old) x.all o × IsNumberOf rows o number)
 RefusesAt x rows old TooMany = Begins x old × ((dropped : List Sight) × (chain : List SegmentView)
     × IsPublication (x.terms old) x.all dropped chain × AreTooMany x chain)
@@ -83,7 +87,7 @@ refuses_at : (x : Input) (rows : List RowView) (f : FitFault) → Refuses x rows
 refuses_at x rows BadHold r = r
 refuses_at x rows (OldFalls fall) r = (r.0, r.1, (r.2, r.3))
 refuses_at x rows BandEmpty r = (r.0, r.1, (r.2, r.3, r.4))
-refuses_at x rows (NoRate number) r = (r.0, r.1.last, (r.1, r.2))
+refuses_at x rows (NoRate number barrier) r = (r.0, r.1.last, (r.1, r.2))
 refuses_at x rows (TimeFalls number) r = (r.0, r.1.last, (r.1, r.2))
 refuses_at x rows TooMany r = (r.0, r.1.last, (r.1, r.2))
 refuses_at x rows NoMemory r = absurd r
@@ -94,7 +98,7 @@ module _ (x : Input) (rows : List RowView) (old : TripleView) where
   hold_alone BadHold bad r = refl
   hold_alone (OldFalls fall) bad r = absurd (r.0 bad)
   hold_alone BandEmpty bad r = absurd (r.0 bad)
-  hold_alone (NoRate number) bad r = absurd (r.0.hold bad)
+  hold_alone (NoRate number barrier) bad r = absurd (r.0.hold bad)
   hold_alone (TimeFalls number) bad r = absurd (r.0.hold bad)
   hold_alone TooMany bad r = absurd (r.0.hold bad)
   hold_alone NoMemory bad r = absurd r
@@ -103,7 +107,7 @@ module _ (x : Input) (rows : List RowView) (old : TripleView) where
   fall_alone fall BadHold good f r = absurd (good r)
   fall_alone fall (OldFalls other) good f r = ap OldFalls (one_fall x (x.terms old).gauge.per_count fall other f r.1)
   fall_alone fall BandEmpty good f r = absurd (r.1 fall.join f.first.falls)
-  fall_alone fall (NoRate number) good f r = absurd (r.0.falls fall.join f.first.falls)
+  fall_alone fall (NoRate number barrier) good f r = absurd (r.0.falls fall.join f.first.falls)
   fall_alone fall (TimeFalls number) good f r = absurd (r.0.falls fall.join f.first.falls)
   fall_alone fall TooMany good f r = absurd (r.0.falls fall.join f.first.falls)
   fall_alone fall NoMemory good f r = absurd r
@@ -112,7 +116,7 @@ module _ (x : Input) (rows : List RowView) (old : TripleView) where
   band_alone BadHold e r = absurd (e.0 r)
   band_alone (OldFalls fall) e r = absurd (e.1 fall.join r.1.first.falls)
   band_alone BandEmpty e r = refl
-  band_alone (NoRate number) e r = absurd (r.0.band e.2)
+  band_alone (NoRate number barrier) e r = absurd (r.0.band e.2)
   band_alone (TimeFalls number) e r = absurd (r.0.band e.2)
   band_alone TooMany e r = absurd (r.0.band e.2)
   band_alone NoMemory e r = absurd r
@@ -122,20 +126,24 @@ module _ (x : Input) (rows : List RowView) (old : TripleView) where
       let seen : p.0 ≡ q.0 = same_Some p.0 q.0 (sym p.1 ∙ ap (λ (y : Sight). slice_get rows y.place) e ∙ q.1) in
       p.2 ∙ ap (λ (row : RowView). row.number) seen ∙ sym q.2
 
-  rate_alone : (n : ℕ) (g : FitFault) → RefusesAt x rows old (NoRate n) → RefusesAt x rows old g → NoRate n ≡ g
-  rate_alone n BadHold s r = absurd (s.0.hold r)
-  rate_alone n (OldFalls fall) s r = absurd (s.0.falls fall.join r.1.first.falls)
-  rate_alone n BandEmpty s r = absurd (s.0.band r.2)
-  rate_alone n (NoRate m) s r = ap NoRate (one_number s.1.0 r.1.0 n m (one_stop.one (x.terms old) x.all s.1.0 r.1.0 (inl s.1.1) (inl r.1.1)) s.1.2 r.1.2)
-  rate_alone n (TimeFalls m) s r = absurd (one_stop.apart (x.terms old) x.all s.1.0 r.1.0 s.1.1 r.1.1)
-  rate_alone n TooMany s r = absurd (one_stop.none (x.terms old) x.all s.1.0 r.1.0 r.1.1 (inl s.1.1) r.1.2)
-  rate_alone n NoMemory s r = absurd r
+  rate_alone : (n : ℕ) (b : Barrier) (g : FitFault) → RefusesAt x rows old (NoRate n b) → RefusesAt x rows old g → NoRate n b ≡ g
+  rate_alone n b BadHold s r = absurd (s.0.hold r)
+  rate_alone n b (OldFalls fall) s r = absurd (s.0.falls fall.join r.1.first.falls)
+  rate_alone n b BandEmpty s r = absurd (s.0.band r.2)
+  rate_alone n b (NoRate m b') s r =
+      let number : n ≡ m = one_number s.1.0 r.1.0 n m (one_stop.one (x.terms old) x.all s.1.0 r.1.0 (inl s.1.1) (inl r.1.1)) s.1.2 r.1.2 in
+      let barrier : b ≡ b' = one_barrier rows s.1.1.no_rate.last.ended r.1.1.no_rate.last.ended b b'
+      (ap (λ (g : SegmentView). g.ended) (stops_last (x.terms old) x.all s.1.0 r.1.0 s.1.1 r.1.1)) s.1.3 r.1.3 in
+      ap (λ (k : ℕ). NoRate k b) number ∙ ap (NoRate m) barrier
+  rate_alone n b (TimeFalls m) s r = absurd (one_stop.apart (x.terms old) x.all s.1.0 r.1.0 s.1.1 r.1.1)
+  rate_alone n b TooMany s r = absurd (one_stop.none (x.terms old) x.all s.1.0 r.1.0 r.1.1 (inl s.1.1) r.1.2)
+  rate_alone n b NoMemory s r = absurd r
 
   time_alone : (n : ℕ) (g : FitFault) → RefusesAt x rows old (TimeFalls n) → RefusesAt x rows old g → TimeFalls n ≡ g
   time_alone n BadHold s r = absurd (s.0.hold r)
   time_alone n (OldFalls fall) s r = absurd (s.0.falls fall.join r.1.first.falls)
   time_alone n BandEmpty s r = absurd (s.0.band r.2)
-  time_alone n (NoRate m) s r = absurd (one_stop.apart (x.terms old) x.all r.1.0 s.1.0 r.1.1 s.1.1)
+  time_alone n (NoRate m b) s r = absurd (one_stop.apart (x.terms old) x.all r.1.0 s.1.0 r.1.1 s.1.1)
   time_alone n (TimeFalls m) s r = ap TimeFalls (one_number s.1.0 r.1.0 n m (one_stop.one (x.terms old) x.all s.1.0 r.1.0 (inr s.1.1) (inr r.1.1)) s.1.2 r.1.2)
   time_alone n TooMany s r = absurd (one_stop.none (x.terms old) x.all s.1.0 r.1.0 r.1.1 (inr s.1.1) r.1.2)
   time_alone n NoMemory s r = absurd r
@@ -144,7 +152,7 @@ module _ (x : Input) (rows : List RowView) (old : TripleView) where
   many_alone BadHold s r = absurd (s.0.hold r)
   many_alone (OldFalls fall) s r = absurd (s.0.falls fall.join r.1.first.falls)
   many_alone BandEmpty s r = absurd (s.0.band r.2)
-  many_alone (NoRate m) s r = absurd (one_stop.none (x.terms old) x.all r.1.0 s.1.0 s.1.1 (inl r.1.1) s.1.2)
+  many_alone (NoRate m b) s r = absurd (one_stop.none (x.terms old) x.all r.1.0 s.1.0 s.1.1 (inl r.1.1) s.1.2)
   many_alone (TimeFalls m) s r = absurd (one_stop.none (x.terms old) x.all r.1.0 s.1.0 s.1.1 (inr r.1.1) s.1.2)
   many_alone TooMany s r = refl
   many_alone NoMemory s r = absurd r
@@ -153,7 +161,7 @@ module _ (x : Input) (rows : List RowView) (old : TripleView) where
   refusal_at BadHold g p q = hold_alone g p q
   refusal_at (OldFalls fall) g p q = fall_alone fall g p.0 p.1 q
   refusal_at BandEmpty g p q = band_alone g p q
-  refusal_at (NoRate n) g p q = rate_alone n g p q
+  refusal_at (NoRate n b) g p q = rate_alone n b g p q
   refusal_at (TimeFalls n) g p q = time_alone n g p q
   refusal_at TooMany g p q = many_alone g p q
   refusal_at NoMemory g p q = absurd p
@@ -164,7 +172,7 @@ module _ (x : Input) (rows : List RowView) (old : TripleView) where
   unrefused_at dropped chain BadHold b p few r = b.hold r
   unrefused_at dropped chain (OldFalls fall) b p few r = b.falls fall.join r.1.first.falls
   unrefused_at dropped chain BandEmpty b p few r = b.band r.2
-  unrefused_at dropped chain (NoRate n) b p few r = one_stop.none (x.terms old) x.all r.1.0 dropped chain (inl r.1.1) p
+  unrefused_at dropped chain (NoRate n barrier) b p few r = one_stop.none (x.terms old) x.all r.1.0 dropped chain (inl r.1.1) p
   unrefused_at dropped chain (TimeFalls n) b p few r = one_stop.none (x.terms old) x.all r.1.0 dropped chain (inr r.1.1) p
   unrefused_at dropped chain TooMany b p few r =
       few (subst (AreTooMany x) (one_publication (x.terms old) x.all r.1.0 dropped r.1.1 chain r.1.2 p).1 r.1.3)

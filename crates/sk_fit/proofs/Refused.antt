@@ -15,7 +15,7 @@ use Rattle.sk_fit.specs.Fitted.{StopsAt}
 pub stopped : (triples : TriplesView) (clock : ClockView) (rows : List RowView) (settings : Settings) (old : TripleView) (fault : FitFault)
     → Begins (input triples clock rows settings) old → StopsAt (terms_of settings clock old) rows fault
     → (fault ≡ NoMemory) ⊎ Refuses (input triples clock rows settings) rows fault
-stopped triples clock rows settings old (NoRate number) begins h = inr (old, begins, h)
+stopped triples clock rows settings old (NoRate number barrier) begins h = inr (old, begins, h)
 stopped triples clock rows settings old (TimeFalls number) begins h = inr (old, begins, h)
 stopped triples clock rows settings old NoMemory begins h = inl refl
 stopped triples clock rows settings old BadHold begins h = absurd h

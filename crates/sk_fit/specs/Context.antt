@@ -73,16 +73,17 @@ RunsOver fit n row f r = IsRunning (terms fit) (all_of fit) f (sight_at n row) r
 abbrev pub CanEndAs : FitView → ℕ → RowView → FittingView → End → Type 0
 CanEndAs fit n row f ended = CanEnd (terms fit) (all_of fit) n f (sight_at n row) (end_view ended)
 
--- no allowed rate meets the next observation, or time falls there
-abbrev pub LacksRate : FitView → ℕ → RowView → FittingView → Type 0
-LacksRate fit n row f = (kept dropped : List Sight) → IsFitting (terms fit) (all_of fit) n f kept dropped → HasNoRate (terms fit) kept (sight_at n row)
+-- no allowed rate meets the next observation, and the open segment ends so; or time falls there
+abbrev pub LacksRate : FitView → ℕ → RowView → End → FittingView → Type 0
+LacksRate fit n row ended f = (kept dropped : List Sight) → IsFitting (terms fit) (all_of fit) n f kept dropped
+    → (none : HasNoRate (terms fit) kept (sight_at n row)) × (none.last.ended ≡ end_view ended)
 
 abbrev pub LetsTimeFall : FitView → ℕ → RowView → FittingView → Type 0
 LetsTimeFall fit n row f = (kept dropped : List Sight) → IsFitting (terms fit) (all_of fit) n f kept dropped → HasTimeFall (terms fit) kept (sight_at n row)
 
 -- why the next observation stops the fit
 abbrev pub StopsFit : FitView → ℕ → RowView → FittingView → FitFault → Type 0
-StopsFit fit n row f fault = StopsBy (terms fit) (all_of fit) n (sight_at n row) f row.number fault
+StopsFit fit n row f fault = StopsBy (terms fit) fit.rows n (sight_at n row) f row.number fault
 
 -- ---- a segment that begins
 

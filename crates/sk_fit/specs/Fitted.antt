@@ -14,6 +14,7 @@ use Rattle.sk_fit.specs.declared.fault.FitFault.TheVariants.{NoRate, TimeFalls, 
 use Rattle.sk_fit.specs.declared.settings.Settings.{Settings}
 use Rattle.sk_fit.specs.Given.{IsUsableBand, terms_of}
 use Rattle.sk_fit.specs.Causes.{IsNumberOf, input}
+use Rattle.sk_fit.specs.Barriers.{IsBarrier}
 use Rattle.sk_fit.specs.declared.chain.Chain.{Chain}
 use Rattle.sk_fit.specs.Context.{FitView, terms}
 use Rattle.sk_fit.specs.State.{FittingView, IsFitting, IsSmallClock}
@@ -33,7 +34,8 @@ pub record IsChainOf (fit : FitView) (first_new : ℕ) (chain : Chain) : Type 0 
 
 -- the observation that stops a publication, for this reason; or memory runs out
 abbrev pub StopsAt : Terms → List RowView → FitFault → Type 0
-StopsAt t rows (NoRate number) = (o : Sight) × StopsAtNoRate t (sights rows) o × IsNumberOf rows o number
+StopsAt t rows (NoRate number barrier) = (o : Sight) × (stop : StopsAtNoRate t (sights rows) o) × IsNumberOf rows o number
+    × IsBarrier rows stop.no_rate.last.ended barrier
 StopsAt t rows (TimeFalls number) = (o : Sight) × StopsAtTimeFall t (sights rows) o × IsNumberOf rows o number
 StopsAt t rows NoMemory = Unit {0}
 StopsAt t rows _ = ⊥

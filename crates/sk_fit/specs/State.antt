@@ -10,13 +10,15 @@ use Rattle.sk_fit.specs.declared.fault.FitFault.{FitFault}
 use Rattle.sk_fit.specs.declared.fault.FitFault.TheVariants.{NoRate, TimeFalls, NoMemory}
 use Rattle.sk_fit.specs.declared.chain.End.{End}
 use Rattle.sk_fit.specs.declared.chain.End.TheVariants.{Last}
-use Rattle.sk_publishing.specs.Terms.{Sight, Terms, in_seconds}
+use Rattle.sk_publishing.specs.Row.{RowView}
+use Rattle.sk_publishing.specs.Terms.{Sight, Terms, in_seconds, sights}
 use Rattle.sk_line.specs.Triple.{TripleView}
 use Rattle.sk_publishing.specs.Chain.{SegmentView, IsInPartition, left_at, rounded_up}
 use Rattle.sk_publishing.specs.Kept.{SortsNext, is_new, HasNoRate, HasTimeFall}
 use Rattle.sk_clock.specs.Clock.{ClockView, ticks_per, total}
 use Rattle.sk_publishing.specs.Built.{Built}
 use Rattle.sk_fit.specs.Given.{segment_view, IsRate, ArePlaced}
+use Rattle.sk_fit.specs.Barriers.{IsBarrier}
 
 -- ---- what arithmetic needs
 
@@ -167,11 +169,12 @@ abbrev pub Moves : Terms → List Sight → ℕ → Sight → FittingView → Fi
 Moves t all n o f f' = (kept dropped : List Sight) → IsFitting t all n f kept dropped
     → (kept' : List Sight) × (dropped' : List Sight) × SortsNext t kept dropped o kept' dropped' × IsFitting t all (n + 1) f' kept' dropped'
 
--- why one observation more, with this record number, stops what is built
-abbrev pub StopsBy : Terms → List Sight → ℕ → Sight → FittingView → ℕ → FitFault → Type 0
-StopsBy t all n o f number (NoRate named) = (named ≡ number)
-    × ((kept dropped : List Sight) → IsFitting t all n f kept dropped → HasNoRate t kept o × (length dropped ≡ t.reject))
-StopsBy t all n o f number (TimeFalls named) = (named ≡ number)
-    × ((kept dropped : List Sight) → IsFitting t all n f kept dropped → HasTimeFall t kept o)
-StopsBy t all n o f number NoMemory = Unit {0}
-StopsBy t all n o f number _ = ⊥
+-- why one observation more, with this record number, stops what is built of the rows
+abbrev pub StopsBy : Terms → List RowView → ℕ → Sight → FittingView → ℕ → FitFault → Type 0
+StopsBy t rows n o f number (NoRate named barrier) = (named ≡ number)
+    × ((kept dropped : List Sight) → IsFitting t (sights rows) n f kept dropped
+    → (none : HasNoRate t kept o) × IsBarrier rows none.last.ended barrier × (length dropped ≡ t.reject))
+StopsBy t rows n o f number (TimeFalls named) = (named ≡ number)
+    × ((kept dropped : List Sight) → IsFitting t (sights rows) n f kept dropped → HasTimeFall t kept o)
+StopsBy t rows n o f number NoMemory = Unit {0}
+StopsBy t rows n o f number _ = ⊥

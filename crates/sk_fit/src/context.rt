@@ -7,12 +7,14 @@ ghost use Rattle.sk_publishing.specs.Rates.{IsLeastRate, IsGreatestRate};
 ghost use Rattle.sk_publishing.specs.Chain.{IsAllowedStep, rounded_up as rounded_up_of};
 ghost use Rattle.sk_publishing.specs.Kept.{is_new};
 ghost use Rattle.sk_publishing.specs.Built.{middle_rate as middle_of};
-ghost use Rattle.sk_fit.specs.Given.{CanMeet, IsRate, anchor_of, sight_at, segment_view};
+ghost use Rattle.sk_fit.specs.Given.{CanMeet, IsRate, anchor_of, sight_at, segment_view, end_view};
+ghost use Rattle.sk_fit.specs.Barriers.{IsBarrier, IsEndWithin};
 ghost use Rattle.sk_fit.specs.State.{HoldsLine};
 ghost use Rattle.sk_fit.specs.Context.{IsFit, IsNext, terms};
 
 use crate::anchors::{line_at, middle_rate, rounded_up};
-use crate::chain::Segment;
+use crate::chain::{End, Segment};
+use crate::fault::Barrier;
 use crate::partitions::are_together;
 use crate::products::{is_less, scaled};
 use crate::rates::{bounds, meets};
@@ -83,6 +85,22 @@ impl<'a> Fit<'a> {
     {
         let rows = self.observations;
         &rows[place]
+    }
+
+    /// Why the line before an observation could not go on to it, by record numbers.
+    pub fn barrier(&self, ended: End) -> Barrier
+        requires { IsEndWithin (length self.now.rows) ended }
+        ensures { IsBarrier self.now.rows (end_view ended) result }
+    {
+        match ended {
+            End::Fixed => Barrier::OldLine,
+            End::Blocked { low, high } => Barrier::Pair {
+                low: self.at(low).number,
+                high: self.at(high).number,
+            },
+            End::Last => unreachable!(),
+            End::Partition => unreachable!(),
+        }
     }
 
     /// As many observations are dropped as may be.

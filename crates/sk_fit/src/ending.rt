@@ -58,7 +58,7 @@ impl Fitting {
         requires ends { CanEndAs fit.now place obs.now self.old ended }
         ensures began { result ≡ Ok true → Grows fit.now place obs.now self.old self.new }
         ensures stays { result ≢ Ok true → self.new ≡ self.old }
-        ensures none { result ≡ Ok false → LacksRate fit.now place obs.now self.old }
+        ensures none { result ≡ Ok false → LacksRate fit.now place obs.now ended self.old }
     {
         let anchor = self.left_anchor(fit);
         let Some(beginning) = beginning_at(fit, anchor, obs) else {

@@ -1,6 +1,16 @@
 use sk_triples::Fall;
 use thiserror::Error;
 
+/// Why the line before a record could not go on to it.
+#[derive(Clone, Copy, Debug, PartialEq, Eq)]
+pub enum Barrier {
+    /// It is the line of the old kernel's last triple, which misses the record.
+    OldLine,
+    /// Each allowed rate is too small at the record `low` or too large at the record `high`, of those that the line
+    /// covers and the one before which it was left. Of equal ones it is the earliest.
+    Pair { low: u32, high: u32 },
+}
+
 /// Why there is no publication.
 #[derive(Clone, Copy, Debug, Error)]
 pub enum FitFault {
@@ -11,9 +21,9 @@ pub enum FitFault {
     OldFalls(Fall),
     #[error("no rate is allowed")]
     BandEmpty,
-    /// The record for which no allowed rate is left.
+    /// The record that no allowed rate meets from where the line before was left, and why that one could not go on.
     #[error("record {0}: no allowed rate meets it")]
-    NoRate(u32),
+    NoRate(u32, Barrier),
     /// The record at which time would fall.
     #[error("record {0}: time would fall")]
     TimeFalls(u32),

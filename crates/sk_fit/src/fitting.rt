@@ -4,6 +4,7 @@ ghost use Rattle.std.specs.Prelude.{◌≡◌, ◌+◌, ◌++◌, ◌∷◌, ◌
 ghost use Rattle.sk_publishing.specs.Row.{RowView};
 ghost use Rattle.sk_publishing.specs.Kept.{is_new};
 ghost use Rattle.sk_fit.specs.Given.{sight_at};
+ghost use Rattle.sk_fit.specs.Barriers.{IsEndWithin};
 ghost use Rattle.sk_fit.specs.State.{fresh, dropped_at};
 ghost use Rattle.sk_fit.specs.Fitted.{IsFitted, StopsAt};
 ghost use Rattle.sk_fit.specs.Context.{terms, IsNext, IsBuiltTo, Grows, IsHere, LacksRate, LetsTimeFall, StopsFit};
@@ -125,13 +126,16 @@ impl Fitting {
         ensures moved { OnOk result (Grows fit.now place obs.now self.old self.new) }
         ensures stopped { IfErr result (StopsFit fit.now place obs.now self.old) }
     {
-        let Ok(went) = self.cover_here(fit, place, obs) else {
+        let Some(ended) = self.goes_on(fit, place, obs) else {
+            return Ok(());
+        };
+        let Ok(went) = self.leave_here(fit, place, obs, ended) else {
             return Err(FitFault::NoMemory);
         };
         if went {
             return Ok(());
         }
-        self.drop_or_stop(fit, place, obs)
+        self.drop_or_stop(fit, place, obs, ended)
     }
 
     /// The next observation, in another partition: it is covered.
@@ -149,21 +153,6 @@ impl Fitting {
             return Ok(());
         }
         Err(FitFault::TimeFalls(obs.number))
-    }
-
-    /// The open segment or a further one covers an observation of its partition; `false` where no allowed rate meets it.
-    fn cover_here(&mut self, fit: &Fit, place: usize, obs: &Observation) -> Result<bool, NoMemory>
-        requires built { IsBuiltTo fit.now place self.old }
-        requires next { IsNext fit.now place obs.now }
-        requires here { IsHere fit.now place obs.now self.old }
-        ensures began { result ≡ Ok true → Grows fit.now place obs.now self.old self.new }
-        ensures stays { result ≢ Ok true → self.new ≡ self.old }
-        ensures none { result ≡ Ok false → LacksRate fit.now place obs.now self.old }
-    {
-        match self.goes_on(fit, place, obs) {
-            None => Ok(true),
-            Some(ended) => self.leave_here(fit, place, obs, ended),
-        }
     }
 
     /// A segment of another partition covers the observation; `false` where time would fall.
@@ -184,16 +173,23 @@ impl Fitting {
         }
     }
 
-    /// The observation is dropped, where one more may be.
-    fn drop_or_stop(&mut self, fit: &Fit, place: usize, obs: &Observation) -> Result<(), FitFault>
+    /// The observation is dropped, where one more may be; the open segment, which ends so, could not go on to it.
+    fn drop_or_stop(
+        &mut self,
+        fit: &Fit,
+        place: usize,
+        obs: &Observation,
+        ended: End,
+    ) -> Result<(), FitFault>
         requires built { IsBuiltTo fit.now place self.old }
         requires next { IsNext fit.now place obs.now }
-        requires none { LacksRate fit.now place obs.now self.old }
+        requires none { LacksRate fit.now place obs.now ended self.old }
+        requires within { IsEndWithin (length fit.now.rows) ended }
         ensures moved { OnOk result (Grows fit.now place obs.now self.old self.new) }
         ensures stopped { IfErr result (StopsFit fit.now place obs.now self.old) }
     {
         if fit.is_full(self.dropped.len()) {
-            return Err(FitFault::NoRate(obs.number));
+            return Err(FitFault::NoRate(obs.number, fit.barrier(ended)));
         }
         match self.drop_place(place) {
             Ok(()) => Ok(()),

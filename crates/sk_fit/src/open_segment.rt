@@ -3,6 +3,7 @@
 ghost use Rattle.std.specs.Prelude.{◌≡◌, ◌+◌, ◌^◌, ◌<◌, ◌<ℤ◌, ◌≤ℤ◌, IsTrue, false, [], IfSome, IfNone, length};
 ghost use Rattle.sk_publishing.specs.Meets.{Meets};
 ghost use Rattle.sk_fit.specs.Given.{anchor_of, sight_at};
+ghost use Rattle.sk_fit.specs.Barriers.{IsEndWithin};
 ghost use Rattle.sk_fit.specs.State.{gone_on, bounded};
 ghost use Rattle.sk_fit.specs.Context.{terms, IsNext, IsBuiltTo, Grows, IsHere, RunsOver, CanEndAs};
 
@@ -30,6 +31,7 @@ impl Fitting {
         ensures went { IfNone result (Grows fit.now place obs.now self.old self.new) }
         ensures stays { IfSome result (λ ended. self.new ≡ self.old) }
         ensures ends { IfSome result (CanEndAs fit.now place obs.now self.old) }
+        ensures within { IfSome result (IsEndWithin (length fit.now.rows)) }
     {
         if self.is_first() {
             if self.goes_on_first(fit, place, obs) {

@@ -34,8 +34,8 @@ begun : (clock : ClockView) (pairs : List LeapPair) (left : List (List (List ℕ
 begun clock pairs left = record {
   previous = None;
   is_before = refl;
-  refuses = λ fault h. inr (λ other. other refl, h);
-  passes = λ none. (λ other. other refl, none);
+  refuses = λ fault h. inr (λ cause is. is.0 refl, h);
+  passes = λ none. (λ cause is. is.0 refl, none);
   lists = λ more h. h;
 }
 

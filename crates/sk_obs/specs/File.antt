@@ -1,11 +1,16 @@
 -- The observation file: its records by the crate `csv`, and what is refused of them.
-use Rattle.std.specs.Prelude.{◌≡◌, ◌≢◌, ℕ, ◌*◌, ◌^◌, ◌≤◌, ℤ, pos, ◌-ℤ◌, List, [], ◌∷◌, ◌++◌, length, drop, Option, None, IsSomeAnd, slice_index_or, codes}
-use Rattle.std.specs.List.{enumerate_from, AllZip}
+use Rattle.std.specs.Prelude.{◌≡◌, ◌≢◌, ◌⊎◌, ℕ, ◌*◌, ◌^◌, ◌≤◌, ◌<◌, ◌==◌, ℤ, pos, ◌-ℤ◌, IsTrue, List, [], ◌∷◌, ◌++◌, length, map, drop, Option, None, IsSomeAnd, slice_index_or, codes}
+use Rattle.std.specs.Char.{to_ascii_lowercase}
+use Rattle.std.specs.List.{enumerate_from, list_any, AllZip}
 use Rattle.csv.specs.Reading.{records, default_config, strip_bom}
+use Rattle.csv.specs.Records.{trimmed}
 use Rattle.sk_checks.specs.Checks.{Check, ◌⇒◌, carried, FirstRefuses, each_after}
 use Rattle.sk_clock.specs.Clock.{ClockView}
 use Rattle.sk_clock.specs.ClockText.{SpellsDigits}
 use Rattle.sk_leap.specs.declared.pair.LeapPair.{LeapPair}
+use Rattle.sk_obs.specs.declared.fault.HeaderCause.{HeaderCause}
+use Rattle.sk_obs.specs.declared.fault.HeaderCause.TheVariants.{Empty, LineBefore, ZeroByte, Comment, OtherSeparator, NoHeader, Blanks, Capitals, OtherOrder, TooFew, OtherNames}
+use Rattle.sk_obs.specs.declared.fault.HeaderCause.TheVariants as cause
 use Rattle.sk_obs.specs.declared.fault.ObsFault.{ObsFault}
 use Rattle.sk_obs.specs.declared.fault.ObsFault.TheVariants.{Header, FieldCount, BadId, ClockRefused, BadDelay, TimeRange, OutOfOrder, TooMany}
 use Rattle.sk_publishing.specs.Row.{RowView, IsObservedTime}
@@ -69,10 +74,73 @@ abbrev pub record_checks : ClockView → List LeapPair → Option (List (List �
 record_checks clock pairs before n fields =
     own_checks clock pairs n fields ++ IsSomeAnd before (λ previous. IsNotAbove clock previous fields) ⇒ OutOfOrder n ∷ []
 
+-- ---- why the first record is not the header
+
+abbrev pub HoldsByte : List ℕ → ℕ → Type 0
+HoldsByte bytes byte = IsTrue (list_any (λ b. b == byte) bytes)
+
+abbrev pub BeginsWith : List ℕ → ℕ → Type 0
+BeginsWith [] byte = ⊥
+BeginsWith (b ∷ rest) byte = b ≡ byte
+
+-- the header is the first of these
+abbrev pub FollowsHeader : List (List (List ℕ)) → Type 0
+FollowsHeader [] = ⊥
+FollowsHeader (next ∷ later) = next ≡ header_fields
+
+-- one field, with a semicolon or a tab
+abbrev pub HasOtherSeparator : List (List ℕ) → Type 0
+HasOtherSeparator fields = (length fields ≡ 1) × (HoldsByte (id_of fields) 59 ⊎ HoldsByte (id_of fields) 9)
+
+abbrev pub lowered : List ℕ → List ℕ
+lowered field = map to_ascii_lowercase field
+
+-- in small letters the fields are those of the header
+abbrev pub AreLowered : List (List ℕ) → Type 0
+AreLowered fields = (length fields ≡ 4) × (lowered (id_of fields) ≡ codes "id") × (lowered (clock_of fields) ≡ codes "clock")
+    × (lowered (time_of fields) ≡ codes "time") × (lowered (delay_of fields) ≡ codes "delay")
+
+-- one of the first four fields
+unfoldable pub HasColumn : List (List ℕ) → List ℕ → Type 0
+HasColumn fields name = (id_of fields ≡ name) ⊎ (clock_of fields ≡ name) ⊎ (time_of fields ≡ name) ⊎ (delay_of fields ≡ name)
+
+-- four fields, among them each of the header
+abbrev pub AreReordered : List (List ℕ) → Type 0
+AreReordered fields = (length fields ≡ 4) × HasColumn fields (codes "id") × HasColumn fields (codes "clock")
+    × HasColumn fields (codes "time") × HasColumn fields (codes "delay")
+
+-- of names, without the white space beside them
+abbrev pub name_causes : List (List ℕ) → List (Check HeaderCause)
+name_causes names =
+    (names ≡ header_fields) ⇒ Blanks
+    ∷ AreLowered names ⇒ Capitals
+    ∷ AreReordered names ⇒ OtherOrder
+    ∷ (length names < 4) ⇒ TooFew
+    ∷ (4 < length names) ⇒ cause.TooMany
+    ∷ Unit {0} ⇒ OtherNames
+    ∷ []
+
+-- of a first record that is not the header, by itself
+abbrev pub own_causes : List (List ℕ) → List (Check HeaderCause)
+own_causes first =
+    HoldsByte (id_of first) 0 ⇒ ZeroByte
+    ∷ BeginsWith (id_of first) 35 ⇒ Comment
+    ∷ HasOtherSeparator first ⇒ OtherSeparator
+    ∷ HoldsByte (time_of first) 58 ⇒ NoHeader
+    ∷ name_causes (map trimmed first)
+
+-- of a first record that is not the header, with the records after it; the last of these always holds
+abbrev pub header_causes : List (List ℕ) → List (List (List ℕ)) → List (Check HeaderCause)
+header_causes first rows = FollowsHeader rows ⇒ LineBefore ∷ own_causes first
+
+-- the first record is not the header, for this cause
+abbrev pub IsNoHeader : List (List ℕ) → List (List (List ℕ)) → HeaderCause → Type 0
+IsNoHeader first rows cause = (first ≢ header_fields) × FirstRefuses (header_causes first rows) cause
+
 -- what is refused of a file with these records: another header or none, and then the records in order, from 2
 abbrev pub file_checks : ClockView → List LeapPair → List (List (List ℕ)) → List (Check ObsFault)
-file_checks clock pairs [] = Unit {0} ⇒ Header ∷ []
-file_checks clock pairs (header ∷ rows) = (header ≢ header_fields) ⇒ Header ∷ each_after None 2 (record_checks clock pairs) rows
+file_checks clock pairs [] = Unit {0} ⇒ Header Empty ∷ []
+file_checks clock pairs (first ∷ rows) = carried (IsNoHeader first rows) Header ∷ each_after None 2 (record_checks clock pairs) rows
 
 -- record n is this observation
 pub record IsRecordOf (clock : ClockView) (pairs : List LeapPair) (n : ℕ) (fields : List (List ℕ)) (o : RowView) : Type 0 where

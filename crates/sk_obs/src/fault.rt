@@ -32,11 +32,40 @@ pub enum CodeFault {
     CucAgencyEpoch,
 }
 
+/// Why a file does not begin with the header `id`, `clock`, `time`, `delay`: the first of these that holds.
+#[derive(Clone, Copy, Debug, PartialEq, Eq, Error)]
+pub enum HeaderCause {
+    #[error("the file holds no record")]
+    Empty,
+    #[error("the second record is the header")]
+    LineBefore,
+    #[error("the first field holds a zero byte, as UTF-16 does")]
+    ZeroByte,
+    #[error("the first record begins with #")]
+    Comment,
+    #[error("the first record has no comma, but a semicolon or a tab")]
+    OtherSeparator,
+    #[error("the third field of the first record holds a colon, as a time word does")]
+    NoHeader,
+    #[error("there is white space beside the names")]
+    Blanks,
+    #[error("the names have capital letters")]
+    Capitals,
+    #[error("the columns stand in another order")]
+    OtherOrder,
+    #[error("the first record has fewer than four fields")]
+    TooFew,
+    #[error("the first record has more than four fields")]
+    TooMany,
+    #[error("the first record has other names")]
+    OtherNames,
+}
+
 /// Why a file holds no observations. A record is named by its number; the header is record 1.
 #[derive(Clone, Copy, Debug, PartialEq, Eq, Error)]
 pub enum ObsFault {
-    #[error("the header is missing or another one")]
-    Header,
+    #[error("the header is missing or another one: {0}")]
+    Header(HeaderCause),
     #[error("record {0} has another number of fields")]
     FieldCount(u32),
     #[error("the id of record {0} is none")]

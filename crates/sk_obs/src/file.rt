@@ -10,11 +10,11 @@ ghost use Rattle.sk_obs.specs.File.{records_of, header_fields, file_checks, AreO
 ghost use Rattle.sk_obs.specs.Reading.{IsReading, rows_left};
 
 use crate::fault::ObsFault;
-use crate::fields::field;
+use crate::header::read_header;
 use crate::observation::Observation;
 use crate::reading::{next_row, row_reader};
 use crate::record::{PAST_RECORDS, read_record};
-use csv::{ByteRecord, Reader};
+use csv::ByteRecord;
 use sk_checks::NoMemory;
 use sk_clock::Clock;
 use sk_grammar::List;
@@ -43,7 +43,7 @@ fn room_for(alloc: Global, bytes: &[u8]) -> Result<List<Observation>, NoMemory>
 /// observation, at most 100,000, a record of an id of 1 to 32 bytes, a clock word, a time word, and a delay of 0 to
 /// 10^14 ns in 1 to 15 digits. Its time is that of the time word less the delay, at most 9·10^9 s in size. Ticks rise.
 ///
-/// Records are numbered from 1, the header's. The first bad one is named, for the first of these: `FieldCount`,
+/// Where the first record is not the header, `Header` tells why. Records are numbered from 1, the header's. The first bad one is named, for the first of these: `FieldCount`,
 /// `TooMany`, `BadId`, `ClockRefused`, then `TimeForm`, `CodeRefused` or `UtcRefused`, `BadDelay`, `TimeRange` and
 /// `OutOfOrder`.
 pub fn read_observations(
@@ -57,7 +57,7 @@ pub fn read_observations(
 {
     let mut reader = row_reader(alloc, bytes);
     let mut row = ByteRecord::new(alloc);
-    if let Err(fault) = read_header(&mut reader, &mut row) {
+    if let Err(fault) = read_header(alloc, &mut reader, &mut row) {
         return Err(fault);
     }
     let Ok(mut list) = room_for(alloc, bytes) else {
@@ -84,39 +84,6 @@ pub fn read_observations(
         };
     }
     unreachable!()
-}
-
-/// Takes the header; where there is none, or another first record, the file is refused.
-fn read_header(reader: &mut Reader<&[u8]>, row: &mut ByteRecord) -> Result<(), ObsFault>
-    requires { IsReading reader.old }
-    ensures { MatchResult result (λ _. IsReading reader.new × (rows_left reader.old ≡ header_fields ∷ rows_left reader.new)) (λ fault. (fault ≡ ObsFault.NoMemory) ⊎ ((clock : ClockView) (pairs : Sequence LeapPair) → FirstRefuses (file_checks clock pairs (rows_left reader.old)) fault)) }
-{
-    let Ok(found) = next_row(reader, row) else {
-        return Err(ObsFault::NoMemory);
-    };
-    if !found {
-        return Err(ObsFault::Header);
-    }
-    if !is_header(row) {
-        return Err(ObsFault::Header);
-    }
-    Ok(())
-}
-
-fn is_header(row: &ByteRecord) -> bool
-    ensures { IsTrue result ↔ (fields_of row.now ≡ header_fields) }
-{
-    row.len() == 4
-        && is_field(row, 0, b"id")
-        && is_field(row, 1, b"clock")
-        && is_field(row, 2, b"time")
-        && is_field(row, 3, b"delay")
-}
-
-fn is_field(row: &ByteRecord, place: usize, name: &[u8]) -> bool
-    ensures { IsTrue result ↔ (slice_index_or (fields_of row.now) place [] ≡ name.now) }
-{
-    field(row, place) == name
 }
 
 /// Whether the tick is above that of the record before, where there is one.

@@ -7,6 +7,7 @@ mod digits;
 mod fault;
 mod fields;
 mod file;
+mod header;
 mod hex_text;
 mod marks;
 mod observation;
@@ -18,6 +19,6 @@ mod tests;
 mod time_word;
 
 pub use clock_word::read_clock_word;
-pub use fault::{ClockWord, ClockWordStop, CodeFault, ObsFault};
+pub use fault::{ClockWord, ClockWordStop, CodeFault, HeaderCause, ObsFault};
 pub use file::read_observations;
 pub use observation::Observation;

@@ -272,6 +272,17 @@ stops_apart t all o o' h f =
     f.falls.later_partition (ap (λ (x : Sight). partition_at t x.tick) (sym place.1) ∙ h.no_rate.same_partition
     ∙ ap (λ (s : SegmentView). partition_at t s.anchor.ticks) last)
 
+-- the segment that could not go on to it is one alone
+pub stops_last : (t : Terms) (all : List Sight) (o o' : Sight) (h : StopsAtNoRate t all o) (f : StopsAtNoRate t all o') → h.no_rate.last ≡ f.no_rate.last
+stops_last t all o o' h f =
+    let place = same_place t all o o' (no_rate_at t all o h) (no_rate_at t all o' f) in
+    let kept : h.kept ≡ f.kept = (sorts_same t f.before [] [] h.kept h.dropped f.kept f.dropped
+    (subst (λ (z : List Sight). Sorts t z h.kept h.dropped) place.0 h.sorts) f.sorts).0 in
+    let so_far : IsChain t f.kept (Some o') h.no_rate.chain = subst (λ (z : List Sight). IsChain t z (Some o') h.no_rate.chain) kept
+    (subst (λ (x : Sight). IsChain t h.kept (Some x) h.no_rate.chain) place.1 h.no_rate.so_far) in
+    let same = one_chain t f.kept (Some o') h.no_rate.chain f.no_rate.chain so_far f.no_rate.so_far in
+    last_same h.no_rate.is_last.0 f.no_rate.is_last.0 h.no_rate.last f.no_rate.last (sym h.no_rate.is_last.1 ∙ same ∙ f.no_rate.is_last.1)
+
 pub one_stop : OneStop
 one_stop = record {
   none = λ t all o dropped chain h. stops_none t all o dropped chain (stop_at t all o h);

@@ -225,7 +225,7 @@ abbrev pub of_record : ℕ → List ℕ → Words → Words
 of_record n name rest = codes "Record" ∷ decimal n ∷ name ∷ rest
 
 abbrev pub record_words : ObsFault → Words
-record_words obs.Header = plain (codes "Header")
+record_words (obs.Header cause) = plain (codes "Header")
 record_words (obs.FieldCount n) = of_record n (codes "FieldCount") []
 record_words (obs.BadId n) = of_record n (codes "BadId") []
 record_words (obs.ClockRefused n fault) = of_record n (codes "ClockRefused") (clock_word_words fault)
@@ -256,7 +256,7 @@ fit_words fit.BadHold = plain (codes "BadHold")
 fit_words (fit.OldFalls fall) =
     codes "OldFalls" ∷ decimal fall.join ∷ fixed_text 0 (ceiling_quotient fall.amount.num (nat_abs fall.amount.den * 10 ^ 9)) ∷ []
 fit_words fit.BandEmpty = plain (codes "BandEmpty")
-fit_words (fit.NoRate n) = numbered (codes "NoRate") n
+fit_words (fit.NoRate n barrier) = numbered (codes "NoRate") n
 fit_words (fit.TimeFalls n) = numbered (codes "TimeFalls") n
 fit_words fit.TooMany = plain (codes "TooMany")
 fit_words fit.NoMemory = []

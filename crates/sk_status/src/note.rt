@@ -58,7 +58,7 @@ fn push_fit(line: &mut Line, fault: FitFault)
         FitFault::BadHold => push_word(line, "BadHold"),
         FitFault::OldFalls(fall) => push_fall(line, fall),
         FitFault::BandEmpty => push_word(line, "BandEmpty"),
-        FitFault::NoRate(number) => push_numbered(line, "NoRate", number),
+        FitFault::NoRate(number, _) => push_numbered(line, "NoRate", number),
         FitFault::TimeFalls(number) => push_numbered(line, "TimeFalls", number),
         FitFault::TooMany => push_word(line, "TooMany"),
         FitFault::NoMemory => {}

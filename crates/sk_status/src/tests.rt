@@ -2,7 +2,7 @@ ghost use Rattle.std.specs.Prelude.{pos, ◌<ℤ◌};
 
 use super::*;
 use sk_edge::{MemorySink, Sink};
-use sk_fit::FitFault;
+use sk_fit::{Barrier, FitFault};
 use sk_grammar::{GrammarFault, Reason};
 use sk_obs::{ClockWord, CodeFault, ObsFault};
 use sk_ratio::Ratio;
@@ -48,7 +48,7 @@ fn each_end_has_a_line_and_a_number(rt: HostRuntime) {
             "refused;5;Record;4;CodeRefused;CucAgencyEpoch\n",
         ),
         (
-            Status::NotPublished(FitFault::NoRate(7)),
+            Status::NotPublished(FitFault::NoRate(7, Barrier::Pair { low: 5, high: 7 })),
             6,
             "refused;6;NoRate;7\n",
         ),

@@ -206,7 +206,7 @@ fn push_obs_fault(line: &mut Line, fault: ObsFault)
     ensures length { length line.new ≤ length line.old + 85 }
 {
     match fault {
-        ObsFault::Header => push_word(line, "Header"),
+        ObsFault::Header(_) => push_word(line, "Header"),
         ObsFault::FieldCount(number) => push_numbered_word(line, "Record", number, "FieldCount"),
         ObsFault::BadId(number) => push_numbered_word(line, "Record", number, "BadId"),
         ObsFault::TimeForm(number) => push_numbered_word(line, "Record", number, "TimeForm"),

@@ -131,14 +131,54 @@ fn told(
 }
 
 #[test]
+fn a_first_record_that_is_not_the_header_is_told_apart(rt: HostRuntime) -> Result<(), Fail> {
+    let table = [
+        ("", "Empty"),
+        ("\u{feff}", "Empty"),
+        ("\r\n\n", "Empty"),
+        ("# made by hand\nid,clock,time,delay\n", "LineBefore"),
+        ("pass 21\n\nid,clock,time,delay\n", "LineBefore"),
+        // UTF-16, of either order of bytes.
+        ("i\0d\0,\0c\0l\0o\0c\0k\0", "ZeroByte"),
+        ("\0i\0d\0,\0c\0l\0o\0c\0k", "ZeroByte"),
+        (
+            "# made by hand\n# of pass 21\nid,clock,time,delay\n",
+            "Comment",
+        ),
+        ("#id,clock,time,delay\n", "Comment"),
+        ("id;clock;time;delay\n", "OtherSeparator"),
+        ("id\tclock\ttime\tdelay\n", "OtherSeparator"),
+        ("id;clock,time,delay\n", "TooFew"),
+        ("a,tick:256000,tdt:1000,0\n", "NoHeader"),
+        (
+            "a,tick:1,utc:2024-01-22T00:00:00,0\nb,tick:2,tdt:2,0\n",
+            "NoHeader",
+        ),
+        (" id,clock,time,delay\n", "Blanks"),
+        ("id, clock, time, delay\n", "Blanks"),
+        ("ID,clock,time,delay\n", "Capitals"),
+        ("Id, Clock, Time, Delay\n", "Capitals"),
+        ("clock,id,time,delay\n", "OtherOrder"),
+        ("id, time, clock, delay\n", "OtherOrder"),
+        ("id,id,clock,time\n", "OtherNames"),
+        ("id,clock,time\n", "TooFew"),
+        ("id,clock,time,delay,\n", "TooMany"),
+        ("id,clock,time,delay,note\n", "TooMany"),
+        ("name,reading,when,late\n", "OtherNames"),
+    ];
+    let leap = LeapTable::none();
+    let clock = clock_of(&rt, PLAIN)?;
+    for (text, cause) in table {
+        let want = format!(in rt.alloc(); "Header({cause})")?;
+        let is = told(&rt, text, &clock, &leap)?;
+        assert_eq!(rt; is.as_str(), want.as_str(), "at {text}");
+    }
+    Ok(())
+}
+
+#[test]
 fn files_are_read_or_refused_at_their_first_bad_record(rt: HostRuntime) -> Result<(), Fail> {
     let table = [
-        ("", "Header"),
-        ("\n\n", "Header"),
-        ("id,clock,time\n", "Header"),
-        ("id,clock,time,delay,\n", "Header"),
-        ("ID,clock,time,delay\n", "Header"),
-        (" id,clock,time,delay\n", "Header"),
         ("id,clock,time,delay", ""),
         ("\"id\",\"clock\",\"time\",\"delay\"\n", ""),
         (

@@ -1,6 +1,8 @@
 use Rattle.std.proofs.Common.{ap, arith, length, subst, sym}
 use Rattle.sk_publishing.specs.Row.{RowView}
+use Rattle.sk_publishing.specs.Chain.{EndView}
 use Rattle.sk_fit.specs.Given.{sight_at}
+use Rattle.sk_fit.specs.Barriers.{IsBarrier}
 use Rattle.sk_fit.specs.State.{FittingView}
 use Rattle.sk_fit.specs.Context.{terms, all_of, Grows}
 use Rattle.sk_fit.proofs.Dropping.{one_more, room_gone, drops}
@@ -12,7 +14,11 @@ returns-then-is_full-clause-stopped c =
     let number = ap length (ap (λ (v : FittingView). v.dropped) c.self.view_is) in
     let full = c.is_full.ensures.0 c.if-is_full.true in (
       ap (λ (r : RowView). r.number) c.obs.view_is,
-      λ kept dropped h. (c.requires.none kept dropped h, room_gone (terms c.args.fit.now) (all_of c.args.fit.now) c.args.place f kept dropped h (omega arith)),
+      λ kept dropped h. (
+        (c.requires.none kept dropped h).0,
+        subst (λ (e : EndView). IsBarrier c.args.fit.now.rows e c.barrier.result) (sym (c.requires.none kept dropped h).1) c.barrier.ensures,
+        room_gone (terms c.args.fit.now) (all_of c.args.fit.now) c.args.place f kept dropped h (omega arith),
+      ),
     )
 
 pub returns-in-Ok-clause-moved : goal.returns-in-Ok-clause-moved
@@ -21,4 +27,4 @@ returns-in-Ok-clause-moved c =
     let number = ap length (ap (λ (v : FittingView). v.dropped) c.self.view_is) in
     let few = one_more c.is_full.ensures c.if-is_full.false in
     subst (Grows c.args.fit.now c.args.place c.args.obs.now f) (sym c.in-Ok.ensures.ok)
-    (drops (terms c.args.fit.now) (all_of c.args.fit.now) c.args.place f (sight_at c.args.place c.args.obs.now) c.requires.next.at c.requires.next.rises c.requires.next.new (omega arith) c.requires.none)
+    (drops (terms c.args.fit.now) (all_of c.args.fit.now) c.args.place f (sight_at c.args.place c.args.obs.now) c.requires.next.at c.requires.next.rises c.requires.next.new (omega arith) (λ kept dropped h. (c.requires.none kept dropped h).0))

@@ -1,6 +1,7 @@
 use Rattle.std.proofs.Common.{refl}
 use Rattle.sk_fit.specs.Given.{sight_at}
 use Rattle.sk_fit.specs.Context.{terms, all_of}
+use Rattle.sk_fit.proofs.Barriers.{pair_within}
 use Rattle.sk_fit.proofs.Leaving.{first_can_end, later_can_end}
 use Rattle.sk_fit.proofs.fitting.Fitting.goes_on.Goals as goal
 
@@ -13,3 +14,7 @@ pub returns-in-Some-clause-ends : goal.returns-in-Some-clause-ends
 returns-in-Some-clause-ends c =
     later_can_end (terms c.args.fit.now) (all_of c.args.fit.now) c.args.place c.args.self.now (sight_at c.args.place c.args.obs.now)
     c.in-Some.running (c.is_first.ensures.later c.if-is_first.false) c.requires.here c.in-Some.ensures.pair c.in-Some.ensures.blocked
+
+pub returns-in-Some-clause-within : goal.returns-in-Some-clause-within
+returns-in-Some-clause-within c =
+    pair_within (terms c.args.fit.now) c.args.fit.now.rows c.args.place c.args.self.now (sight_at c.args.place c.args.obs.now) c.in-Some.running c.requires.next.at c.in-Some.ensures.pair

@@ -5,5 +5,5 @@ use Rattle.sk_fit.proofs.fitting.Fitting.take_here.Goals as goal
 
 pub drop_or_stop-requires-clause-none : goal.drop_or_stop-requires-clause-none
 drop_or_stop-requires-clause-none c =
-    let stays : c.cover_here.new.self ≡ c.args.self.now = c.in-Ok.ensures.stays (not_went c.in-Ok.went c.if-went.false) in
-    subst (LacksRate c.args.fit.now c.args.place c.args.obs.now) (sym stays) (c.in-Ok.ensures.none (ap went c.if-went.false))
+    let stays : c.leave_here.new.self ≡ c.goes_on.new.self = c.in-Ok.ensures.stays (not_went c.in-Ok.went c.if-went.false) in
+    subst (LacksRate c.args.fit.now c.args.place c.args.obs.now c.in-Some.ended) (sym stays) (c.in-Ok.ensures.none (ap went c.if-went.false))

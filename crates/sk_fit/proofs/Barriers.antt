@@ -1,0 +1,70 @@
+-- The pair that blocks is among the observations, and what an end tells by record numbers is one.
+use Rattle.std.proofs.Common.{◌≡◌, ℕ, ◌<◌, ◌++◌, Bool, true, false, cond, List, [], ◌∷◌, length, refl, sym, ap, subst, ◌∙◌}
+use Rattle.std.proofs.lemmas.Option.{same_Some, slice_get_within}
+use Rattle.std.specs.Prelude.{filter}
+use Rattle.std.specs.List.{AllByRecursion}
+use Rattle.sk_publishing.specs.Row.{RowView}
+use Rattle.sk_publishing.specs.Terms.{Sight, Terms, sights}
+use Rattle.sk_publishing.specs.Chain.{EndView, LastEnd, PartitionEnd, FixedEnd, BlockedEnd}
+use Rattle.sk_line.proofs.Lists.{all_append, all_back}
+use Rattle.sk_fit.specs.declared.open_segment.Running.{Running}
+use Rattle.sk_fit.specs.declared.fault.Barrier.{Barrier}
+use Rattle.sk_fit.specs.declared.fault.Barrier.TheVariants.{OldLine, Pair}
+use Rattle.sk_fit.specs.Barriers.{IsNumberAt, IsBarrier}
+use Rattle.sk_fit.specs.State.{FittingView, IsAt, open_of}
+use Rattle.sk_fit.specs.Pairs.{IsRunning}
+use Rattle.sk_fit.proofs.Observed.{all_sights}
+
+-- ---- places
+
+abbrev IsPlaceOf : List RowView → Sight → Type 0
+IsPlaceOf rows x = x.place < length rows
+
+all_within : (rows : List RowView) → AllByRecursion (IsPlaceOf rows) (sights rows)
+all_within rows = all_sights (IsPlaceOf rows) rows (λ k row here. slice_get_within rows k row here)
+
+taken : (P : Sight → Type 0) (b : Bool) (x : Sight) (xs : List Sight) → P x → AllByRecursion P xs → AllByRecursion P (cond b (x ∷ xs) xs)
+taken P true x xs h all = (h, all)
+taken P false x xs h all = all
+
+all_filtered : (P : Sight → Type 0) (p : Sight → Bool) (xs : List Sight) → AllByRecursion P xs → AllByRecursion P (filter p xs)
+all_filtered P p [] h = tt
+all_filtered P p (x ∷ xs) h = taken P (p x) x (filter p xs) h.0 (all_filtered P p xs h.1)
+
+-- what the open segment covers and the next observation
+all_run : (rows : List RowView) (n : ℕ) (f : FittingView) (o : Sight) → IsAt (sights rows) n o → AllByRecursion (IsPlaceOf rows) ((open_of (sights rows) f).covered ++ o ∷ [])
+all_run rows n f o at =
+    all_append (IsPlaceOf rows) (open_of (sights rows) f).covered (o ∷ []) (all_filtered (IsPlaceOf rows) _ (sights rows) (all_within rows))
+    ((all_back (IsPlaceOf rows) at.before (o ∷ at.after) (subst (AllByRecursion (IsPlaceOf rows)) at.here (all_within rows))).0, tt)
+
+one_of : (rows : List RowView) (run front back : List Sight) (x : Sight) → run ≡ front ++ x ∷ back → AllByRecursion (IsPlaceOf rows) run → IsPlaceOf rows x
+one_of rows run front back x e h = (all_back (IsPlaceOf rows) front (x ∷ back) (subst (AllByRecursion (IsPlaceOf rows)) e h)).0
+
+pub pair_within : (t : Terms) (rows : List RowView) (n : ℕ) (f : FittingView) (o : Sight) (r : Running) → IsAt (sights rows) n o → IsRunning t (sights rows) f o r
+    → (r.least_place < length rows) × (r.greatest_place < length rows)
+pair_within t rows n f o r at run =
+    let all = all_run rows n f o at in (
+      subst (λ (p : ℕ). p < length rows) (sym run.low_place) (one_of rows _ run.is_low.front run.is_low.back run.first run.is_low.joined all),
+      subst (λ (p : ℕ). p < length rows) (sym run.high_place) (one_of rows _ run.is_high.front run.is_high.back run.second run.is_high.joined all),
+    )
+
+-- ---- one barrier
+
+number_same : (rows : List RowView) (place n m : ℕ) → IsNumberAt rows place n → IsNumberAt rows place m → n ≡ m
+number_same rows place n m p q =
+    let seen : p.0 ≡ q.0 = same_Some p.0 q.0 (sym p.1 ∙ q.1) in
+    p.2 ∙ ap (λ (row : RowView). row.number) seen ∙ sym q.2
+
+barrier_same : (rows : List RowView) (e : EndView) (b b' : Barrier) → IsBarrier rows e b → IsBarrier rows e b' → b ≡ b'
+barrier_same rows FixedEnd OldLine OldLine p q = refl
+barrier_same rows FixedEnd OldLine (Pair low high) p q = absurd q
+barrier_same rows FixedEnd (Pair low high) b' p q = absurd p
+barrier_same rows (BlockedEnd x y) OldLine b' p q = absurd p
+barrier_same rows (BlockedEnd x y) (Pair low high) OldLine p q = absurd q
+barrier_same rows (BlockedEnd x y) (Pair low high) (Pair low' high') p q =
+    ap (λ (n : ℕ). Pair n high) (number_same rows x low low' p.0 q.0) ∙ ap (λ (n : ℕ). Pair low' n) (number_same rows y high high' p.1 q.1)
+barrier_same rows LastEnd b b' p q = absurd p
+barrier_same rows PartitionEnd b b' p q = absurd p
+
+pub one_barrier : (rows : List RowView) (e e' : EndView) (b b' : Barrier) → e ≡ e' → IsBarrier rows e b → IsBarrier rows e' b' → b ≡ b'
+one_barrier rows e e' b b' same p q = barrier_same rows e' b b' (subst (λ (x : EndView). IsBarrier rows x b) same p) q
