@@ -16,7 +16,7 @@ HERE = Path(__file__).resolve().parent
 LEAP_SECONDS = HERE.parent / "examples" / "leapseconds.tls"
 PICO = 10**12  # picoseconds of a second
 DELIMITERS = ".:-, "  # of the codes 1 to 5
-FILES = ("kernel", "obs", "leap")  # the options whose value is a file
+FILES = ("kernel", "obs", "leap", "new")  # the options whose value is a file
 
 
 class Difference(Exception):

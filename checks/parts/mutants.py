@@ -2,10 +2,13 @@
 
 Each run must end within seconds, by no signal, with a status and a line that docs/REFUSALS.md lists, and write nothing
 where it is refused. `normal` must write what an independent reader makes of the mutated kernel. A publication that is
-accepted must be, to the byte, that of the fitter of cross-checks/ for what was read.
+accepted must be, to the byte, that of the fitter of cross-checks/ for what was read, and `audit` must say yes to it. A
+mutated new kernel to which `audit` says yes must be that publication, whatever its ID and its layout.
 """
+import copy
 import os
 import random
+import re
 import shutil
 import signal
 import sys
@@ -25,10 +28,17 @@ from refusals import Documented, is_documented
 BATCH = 500  # mutants that one process makes at a time
 HANG = 20  # seconds
 MOST = 2**26  # bytes that are read of what a run wrote
-KINDS = {"k": 45, "o": 45, "l": 6, "words": 4}  # what is mutated, and how often
-COMMANDS = ("publish", "residuals", "normal", "convert", "invert")
-WEIGHTS = {"k": (50, 10, 30, 5, 5), "o": (70, 30, 0, 0, 0), "l": (30, 30, 0, 20, 20), "words": (40, 20, 10, 15, 15)}
+KINDS = {"k": 42, "o": 42, "n": 6, "l": 6, "words": 4}  # what is mutated, and how often
+COMMANDS = ("publish", "residuals", "normal", "convert", "invert", "excerpt", "least", "audit")
+WEIGHTS = {
+    "k": (48, 8, 28, 4, 4, 4, 4, 0),
+    "o": (66, 24, 0, 0, 0, 0, 10, 0),
+    "n": (0, 0, 0, 0, 0, 0, 0, 1),
+    "l": (30, 26, 0, 16, 16, 0, 6, 6),
+    "words": (34, 16, 8, 11, 11, 10, 5, 5),
+}
 READINGS = ("1/5", "tick:5", "114189959168", "1/0001742400.32768", "cuc:2e001cfde04000")
+RANGES = (["--from=5", "--to=300"], ["--from=256", "--to=4096"], ["--from=0", "--to=124452904960"], ["--from=9", "--to=8"])
 TIMES = ("tdt:5", "tdt:759081669.5", "utc:2024-01-22T23:46:40.25", "tdt:-1")
 
 
@@ -54,6 +64,26 @@ class Bases:
             _, options = case.asked()
             kernel, seen, sc = options.pop("kernel").encode(), options.pop("obs").encode(), options.pop("sc")
             self.passes.append((kernel, seen, sc, options))
+        self.published = {}
+
+    def new(self, kernel, seen, sc, options):
+        """What is published of a pass; where it is refused, the line of that."""
+        key = kernel, seen
+        if key not in self.published:
+            read = reading.document(kernel.decode("latin-1"))
+            added = reading.block(reading.publication(read, seen.decode("latin-1"), sc, options))
+            self.published[key] = (reading.canonical(read) + added).encode("latin-1")
+        return self.published[key]
+
+
+def option_words(options, *without):
+    return [f"--{name.replace('_', '-')}={value}" for name, value in options.items() if name not in without]
+
+
+def without_id(text):
+    """A text without the ID of its last block."""
+    at = text.rindex("\\begindata\n")
+    return text[:at] + re.sub(r"^SCLK_KERNEL_ID = .*\n", "", text[at:], count=1, flags=re.MULTILINE)
 
 
 class Mutant:
@@ -63,7 +93,8 @@ class Mutant:
         rng = random.Random(f"{seed} {number}")
         kernel, seen, self.sc, options = rng.choice(bases.passes)
         other = rng.choice(bases.passes)[rng.randrange(2)]
-        self.files, self.options = {"k": kernel, "o": seen, "l": bases.leap}, options_changed(rng, options)
+        self.files = {"k": kernel, "o": seen, "l": bases.leap, "n": bases.new(kernel, seen, self.sc, options)}
+        self.options = options if rng.random() < 0.03 else options_changed(rng, options)
         self.kind = rng.choices(list(KINDS), KINDS.values())[0]
         if self.kind != "words":
             self.files[self.kind] = mutated(rng, self.files[self.kind], other)
@@ -74,12 +105,16 @@ class Mutant:
 
     def asked(self, rng):
         words = ["--kernel=k"]
-        if self.command != "normal":
+        if self.command not in ("normal", "excerpt"):
             words += [f"--sc={self.sc}", "--leap=l"]
-        if self.command in ("publish", "residuals"):
+        if self.command in ("publish", "residuals", "least", "audit"):
             words.append("--obs=o")
         if self.command == "publish":
-            words += [f"--{name.replace('_', '-')}={value}" for name, value in self.options.items()]
+            words += option_words(self.options)
+        if self.command == "audit":
+            words += ["--new=n", *option_words(self.options, "id")]
+        if self.command == "excerpt":
+            words += [f"--sc={self.sc}", *rng.choice(RANGES), *rng.choice([[], ["--over=n"]])]
         if self.command == "convert":
             words.append("--clock=" + rng.choice(READINGS))
         if self.command == "invert":
@@ -90,14 +125,32 @@ class Mutant:
         """What is wrong with the end of the run, or None."""
         if not is_documented(documented, end):
             return "it ends in a way that is not documented"
-        if end.status or self.kind in ("l", "words") or self.command not in ("normal", "publish"):
+        if end.status or self.kind in ("l", "words") or self.command not in ("normal", "publish", "audit"):
             return None
-        text = lambda name: self.files[name].decode("latin-1")
-        read = reading.document(text("k"))
-        wanted = reading.canonical(read)
-        if self.command == "publish":
-            wanted += reading.block(reading.publication(read, text("o"), self.sc, self.options))
-        return None if end.out.decode("latin-1") == wanted else "it writes something else than:\n" + wanted[-3000:]
+        said = end.out.decode("latin-1")
+        wanted = self.wanted()
+        if self.command == "audit":
+            said, wanted = without_id(reading.canonical(reading.document(self.text("n")))), without_id(wanted)
+        return None if said == wanted else "it writes or takes something else than:\n" + wanted[-3000:]
+
+    def wanted(self):
+        """The canonical text of the kernel; after it, where that is asked for, the block of its publication."""
+        read = reading.document(self.text("k"))
+        text = reading.canonical(read)
+        if self.command == "normal":
+            return text
+        return text + reading.block(reading.publication(read, self.text("o"), self.sc, self.options))
+
+    def text(self, name):
+        return self.files[name].decode("latin-1")
+
+    def audit(self, published):
+        """The audit of what this run published, by the same options."""
+        audit = copy.copy(self)
+        audit.files = dict(self.files, n=published)
+        named = ["--kernel=k", "--obs=o", "--new=n", "--leap=l", f"--sc={self.sc}"]
+        audit.words = ["audit", *named, *option_words(self.options, "id")]
+        return audit
 
 
 class Runner:
@@ -152,6 +205,11 @@ def batch(asked):
         end = runner.run(mutant)
         try:
             what = mutant.judge(end, documented)
+            if not what and mutant.command == "publish" and end.status == 0 and mutant.kind != "words":
+                audit = mutant.audit(end.out)
+                verdict = runner.run(audit)
+                ends[audit.words[0], verdict.status] += 1
+                what = None if verdict.out == b"yes\n" else f"its audit ends otherwise: {verdict.told()}"
         except (ArithmeticError, AssertionError, AttributeError, LookupError, TypeError, ValueError) as fault:
             what = f"what it took cannot be read: {fault!r}"
         if what:
@@ -172,12 +230,12 @@ def check(program, seed, count, first=0):
             for failure in failures:
                 print("FAILED:", failure, flush=True)
             if number % 100 == 0:
-                print(f"mutants: {ends.total()} of {count}, {time.monotonic() - begun:.0f} s", file=sys.stderr)
+                print(f"mutants: {number * BATCH} of {count}, {time.monotonic() - begun:.0f} s", file=sys.stderr)
     statuses = Counter()
     for (_, status), times in ends.items():
         statuses[str(status)] += times
     told = ", ".join(f"{times} with {status}" for status, times in sorted(statuses.items()))
-    print(f"mutants: {ends.total()} of seed {seed} ended, {told}")
-    compared = f"{ends['publish', 0]} publications and {ends['normal', 0]} canonical texts compared"
+    print(f"mutants: {count} of seed {seed} and their audits ended, {told}")
+    compared = f"{ends['publish', 0]} publications and {ends['normal', 0]} canonical texts compared, {ends['audit', 0]} audited"
     print(f"mutants: {compared}, {failed} failed, {time.monotonic() - begun:.1f} s", flush=True)
     return failed == 0
