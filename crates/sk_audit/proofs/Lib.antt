@@ -21,6 +21,7 @@ pub mod NewTriples
 pub mod Joined
 pub mod Floors
 pub mod Marking
+pub mod Early
 pub mod Deciding
 pub mod Differing
 pub mod Lining
