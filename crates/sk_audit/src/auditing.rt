@@ -11,7 +11,7 @@ ghost use Rattle.sk_triples.specs.Kernel.{AreOf};
 ghost use Rattle.sk_audit.specs.Audit.{Decides, audit_of, input_of};
 ghost use Rattle.sk_audit.specs.Claimed.{IsNewKernel, NoneClaims};
 ghost use Rattle.sk_audit.specs.Given.{AreSettings};
-ghost use Rattle.sk_audit.specs.Scene.{terms};
+ghost use Rattle.sk_audit.specs.Scene.{IsScene, terms};
 ghost use Rattle.sk_audit.specs.Walked.{IsAccount};
 
 use crate::claims::{are_claimed, triples_of};
@@ -52,6 +52,7 @@ impl<'a> Scene<'a> {
         account: &Account,
         values: &[Value],
     ) -> Result<Option<Triples>, NoMemory>
+        requires scene { IsScene self.now }
         requires triples { AreOf self.now.clock triples.now }
         requires begins { Begins (input_of triples.now self.now.clock self.now.rows self.now.settings) self.now.start.old }
         requires account { IsAccount (terms self.now) (sights self.now.rows) account.now }
