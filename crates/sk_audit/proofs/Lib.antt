@@ -21,7 +21,9 @@ pub mod NewTriples
 pub mod Joined
 pub mod Floors
 pub mod Marking
+pub mod Rowing
 pub mod Early
 pub mod Deciding
 pub mod Differing
 pub mod Lining
+pub mod Comparing
