@@ -27,3 +27,4 @@ pub mod Deciding
 pub mod Differing
 pub mod Lining
 pub mod Comparing
+pub mod Judging
