@@ -1,5 +1,5 @@
 -- The first fault that holds, and that none does.
-use Rattle.std.proofs.Common.{◌≡◌, ◌≢◌, ◌⊎◌, ℕ, ◌+◌, ◌-◌, ◌<◌, List, [], ◌∷◌, ◌++◌, length, length-append, map, refl, sym, ap, subst, inl, inr, ◌∙◌, arith, Option, None, Some, append-nil}
+use Rattle.std.proofs.Common.{◌≡◌, ◌≢◌, ℕ, ◌-◌, List, [], ◌∷◌, ◌++◌, length, length-append, map, refl, sym, ap, subst, inl, inr, ◌∙◌, arith, Option, None, Some, append-nil}
 use Rattle.std.specs.Prelude.{slice_get, flat_map, count_by, not}
 use Rattle.sk_line.specs.Triple.{TripleView}
 use Rattle.sk_line.specs.Line.{FallsOver, covering}
@@ -15,7 +15,7 @@ use Rattle.sk_publishing.specs.Chain.{SegmentView, new_triples}
 use Rattle.sk_publishing.specs.Kept.{is_new, IsPublication}
 use Rattle.sk_publishing.specs.Laws.{Stops}
 use Rattle.sk_publishing.specs.Table.{ChainView}
-use Rattle.sk_publishing.specs.Published.{triple_values, id_items, coefficient_items, appended}
+use Rattle.sk_publishing.specs.Published.{triple_values, id_items, coefficient_items}
 use Rattle.sk_publishing.proofs.Sorting.{one_publication, one_stop}
 use Rattle.sk_audit.specs.declared.verdict.AuditFault.TheVariants.{Settings, Standing, Items, Chain, Table}
 use Rattle.sk_audit.specs.Audit.{Audit, HasBadSettings, Stands, HasItems, HasChain, HasPublication, IsFirstDifference, IsAccepted, audit_checks, table_of}

@@ -1,7 +1,7 @@
 -- Where the first observation is not before the first triple, none is.
-use Rattle.std.proofs.Common.{◌≡◌, ◌≢◌, ℕ, zero, suc, ◌+◌, ◌<◌, ◌≤◌, List, [], ◌∷◌, length, slice_index_or, Bool, true, false, cond, not, refl, sym, ap, subst, ◌∙◌, inl, inr, arith, Option, None, Some}
+use Rattle.std.proofs.Common.{◌≡◌, ◌≢◌, ℕ, zero, suc, ◌+◌, ◌<◌, ◌≤◌, List, [], ◌∷◌, length, slice_index_or, Bool, false, cond, not, refl, sym, ap, ◌∙◌, inl, inr, arith, Option, None, Some}
 use Rattle.std.proofs.lemmas.Bool.Decides.{leb_tells}
-use Rattle.std.specs.Prelude.{unwrap_or, nat_le, slice_get}
+use Rattle.std.specs.Prelude.{unwrap_or, slice_get}
 use Rattle.sk_publishing.specs.Row.{RowView, AreRows}
 use Rattle.std.specs.Option.{option_map, is_some}
 use Rattle.sk_line.specs.Triple.{TripleView}

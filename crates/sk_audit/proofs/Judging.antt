@@ -1,9 +1,9 @@
 -- What each step of an audit finds, as facts of what is audited.
-use Rattle.std.proofs.Common.{◌≡◌, ◌≢◌, ℕ, ◌+◌, ◌<◌, ◌≤◌, List, [], ◌∷◌, ◌++◌, length, map, get_or, Bool, true, false, refl, sym, ap, subst, ◌∙◌, arith, Option, None, Some, cond, inl, inr}
-use Rattle.std.proofs.lemmas.Option.{slice_get_within, slice_get-get_or, get_or_from_slice_get}
+use Rattle.std.proofs.Common.{◌≡◌, ◌≢◌, ℕ, ◌<◌, ◌≤◌, List, [], ◌∷◌, ◌++◌, length, map, Bool, refl, sym, ap, subst, ◌∙◌, arith, Option, None, Some, cond, inl, inr}
+use Rattle.std.proofs.lemmas.Option.{slice_get_within, get_or_from_slice_get}
 use Rattle.std.proofs.lemmas.Bool.Decides.{leb_tells}
 use Rattle.std.proofs.lemmas.List.Elements.{All-from_recursion, All-head, All-tail}
-use Rattle.std.specs.Prelude.{slice_get, unwrap_or, nat_le, count_by, not}
+use Rattle.std.specs.Prelude.{slice_get, unwrap_or, count_by, not}
 use Rattle.std.specs.List.{All}
 use Rattle.sk_line.specs.Triple.{TripleView, coefficients_name}
 use Rattle.sk_line.specs.Line.{covering, covering_from}
@@ -12,10 +12,10 @@ use Rattle.sk_grammar.specs.declared.value.Value.{Value}
 use Rattle.sk_grammar.specs.declared.value.Op.TheVariants.{Append}
 use Rattle.sk_grammar.specs.Document.{ItemView, BlockView, IsItem, IsValue}
 use Rattle.sk_publishing.specs.Row.{RowView, AreRows}
-use Rattle.sk_publishing.specs.Terms.{Sight, Terms, sights, seam}
+use Rattle.sk_publishing.specs.Terms.{Sight, sights, seam}
 use Rattle.sk_publishing.specs.Kept.{is_new}
 use Rattle.sk_publishing.specs.Input.{Input, Begins}
-use Rattle.sk_publishing.specs.Chain.{SegmentView, new_triples}
+use Rattle.sk_publishing.specs.Chain.{new_triples}
 use Rattle.sk_publishing.specs.Table.{ChainView, kernel_view, table_lines}
 use Rattle.sk_publishing.specs.Published.{id_items, coefficient_items}
 use Rattle.sk_triples.specs.Kernel.{TriplesView}
@@ -53,7 +53,7 @@ pub none_early : (x : Input) (rows : List RowView) → x.all ≡ sights rows →
 none_early x rows all covered (o, n, at, none) =
     let P : Sight → Type 0 = λ s. covering x.triples s.tick ≢ None in
     let each : All P (sights rows) = All-from_recursion P (sights rows) (all_sights P rows (λ k row here.
-      subst (λ (r : RowView). covering x.triples r.tick ≢ None) (get_or_from_slice_get rows k row row here) (covered k row (slice_get_within rows k row here)))) in
+    subst (λ (r : RowView). covering x.triples r.tick ≢ None) (get_or_from_slice_get rows k row row here) (covered k row (slice_get_within rows k row here)))) in
     let there : slice_get (sights rows) n ≡ Some o = ap (λ (os : List Sight). slice_get os n) (sym all) ∙ at in
     subst P (get_or_from_slice_get (sights rows) n o o there) (each n o (slice_get_within (sights rows) n o there)) none
 

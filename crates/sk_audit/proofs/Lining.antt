@@ -1,9 +1,9 @@
 -- The lines of the table, one after the other.
-use Rattle.std.proofs.Common.{◌≡◌, ℕ, suc, ◌+◌, ◌<◌, List, [], ◌∷◌, ◌++◌, length, take, drop, get_or, refl, sym, ap, subst, arith, ◌∙◌, append_assoc, append-nil, Option, None, Some, slice_index_or}
+use Rattle.std.proofs.Common.{◌≡◌, ℕ, suc, ◌+◌, ◌<◌, List, [], ◌∷◌, ◌++◌, length, take, drop, get_or, refl, sym, ap, arith, ◌∙◌, None, Some, slice_index_or}
 use Rattle.std.proofs.lemmas.List.{take_more, take-append-drop, length-take-le}
 use Rattle.std.proofs.Math.Seq.{drop-cons}
 use Rattle.sk_publishing.specs.Row.{RowView}
-use Rattle.sk_publishing.specs.Table.{ChainView, row_line, row_lines_from, table_lines, kind_text, end_field}
+use Rattle.sk_publishing.specs.Table.{ChainView, row_line, row_lines_from, table_lines, kind_text}
 use Rattle.sk_audit.specs.declared.table.Table.{Table}
 use Rattle.sk_audit.specs.Marks.{Tells, end_words}
 use Rattle.sk_audit.specs.Rows.{fields_of}

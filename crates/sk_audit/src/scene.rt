@@ -12,10 +12,10 @@ ghost use Rattle.sk_audit.specs.Walking.{open_at};
 ghost use Rattle.sk_audit.specs.Scene.{IsScene, IsNext, terms};
 
 use crate::anchors::{line_at, middle_rate, rounded_up};
+use crate::line::{Bounds, Line};
 use crate::partitions::are_together;
 use crate::products::{is_less, scaled};
 use crate::rates::{bounds, meets};
-use crate::line::{Bounds, Line};
 use crate::settings::AuditSettings;
 use crate::start::Start;
 use sk_clock::Clock;

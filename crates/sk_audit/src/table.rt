@@ -126,7 +126,14 @@ impl<'a> Table<'a> {
         let text = self.clock_text(alloc, observation)?;
         let kind = kind_at(self.marks, place);
         let ended = end_at(self.observations, self.marks, place);
-        write_line(line, observation, text.as_str(), timed, kind, ended.as_slice())
+        write_line(
+            line,
+            observation,
+            text.as_str(),
+            timed,
+            kind,
+            ended.as_slice(),
+        )
     }
 
     // The clock text of an observation's tick.

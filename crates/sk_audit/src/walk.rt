@@ -92,7 +92,12 @@ impl Walk {
     }
 
     /// The next observation is covered or dropped; `false` where it stops every publication.
-    fn take_next(&mut self, scene: &Scene, place: usize, obs: &Observation) -> Result<bool, NoMemory>
+    fn take_next(
+        &mut self,
+        scene: &Scene,
+        place: usize,
+        obs: &Observation,
+    ) -> Result<bool, NoMemory>
         requires built { IsBuiltTo scene.now place self.old }
         requires next { IsNext scene.now place obs.now }
         ensures moved { result ≡ Ok true → Grows scene.now place obs.now self.old self.new }
@@ -105,7 +110,12 @@ impl Walk {
     }
 
     /// The next observation, in the open segment's partition, is covered or dropped.
-    fn take_here(&mut self, scene: &Scene, place: usize, obs: &Observation) -> Result<bool, NoMemory>
+    fn take_here(
+        &mut self,
+        scene: &Scene,
+        place: usize,
+        obs: &Observation,
+    ) -> Result<bool, NoMemory>
         requires built { IsBuiltTo scene.now place self.old }
         requires next { IsNext scene.now place obs.now }
         requires here { IsHere scene.now obs.now self.old }
@@ -120,7 +130,12 @@ impl Walk {
     }
 
     /// The next observation, in another partition, is covered; `false` where time would fall.
-    fn take_apart(&mut self, scene: &Scene, place: usize, obs: &Observation) -> Result<bool, NoMemory>
+    fn take_apart(
+        &mut self,
+        scene: &Scene,
+        place: usize,
+        obs: &Observation,
+    ) -> Result<bool, NoMemory>
         requires built { IsBuiltTo scene.now place self.old }
         requires next { IsNext scene.now place obs.now }
         requires away { ¬ IsHere scene.now obs.now self.old }
@@ -137,7 +152,12 @@ impl Walk {
     }
 
     /// The open segment or a further one covers an observation of its partition; `false` where no allowed rate meets it.
-    fn cover_here(&mut self, scene: &Scene, place: usize, obs: &Observation) -> Result<bool, NoMemory>
+    fn cover_here(
+        &mut self,
+        scene: &Scene,
+        place: usize,
+        obs: &Observation,
+    ) -> Result<bool, NoMemory>
         requires built { IsBuiltTo scene.now place self.old }
         requires next { IsNext scene.now place obs.now }
         requires here { IsHere scene.now obs.now self.old }
@@ -152,7 +172,12 @@ impl Walk {
     }
 
     /// The observation is dropped, where one more may be; else it stops every publication.
-    fn drop_or_stop(&mut self, scene: &Scene, place: usize, obs: &Observation) -> Result<bool, NoMemory>
+    fn drop_or_stop(
+        &mut self,
+        scene: &Scene,
+        place: usize,
+        obs: &Observation,
+    ) -> Result<bool, NoMemory>
         requires built { IsBuiltTo scene.now place self.old }
         requires next { IsNext scene.now place obs.now }
         requires none { LacksRate scene.now place obs.now self.old }

@@ -1,19 +1,16 @@
-use Rattle.std.proofs.Common.{◌≡◌, ◌≢◌, ℕ, ◌+◌, ◌<◌, List, ◌++◌, length, get_or, map, refl, sym, ap, subst, ◌∙◌, Option, None, Some}
+use Rattle.std.proofs.Common.{◌≡◌, ◌≢◌, ℕ, List, get_or, refl, sym, ap, subst, ◌∙◌, Option, None}
 use Rattle.std.specs.Prelude.{IfNone, IfSome, All}
-use Rattle.std.proofs.lemmas.Option.{slice_get_within, get_or_from_slice_get}
 use Rattle.sk_line.specs.Triple.{TripleView}
 use Rattle.sk_line.specs.Line.{covering}
 use Rattle.sk_grammar.specs.declared.value.Value.{Value}
-use Rattle.sk_grammar.specs.Document.{ItemView, BlockView, IsItem, IsBlock}
+use Rattle.sk_grammar.specs.Document.{BlockView, IsItem}
 use Rattle.sk_triples.specs.Kernel.{TriplesView, AreOf}
 use Rattle.sk_publishing.specs.Row.{RowView}
 use Rattle.sk_publishing.specs.Chain.{new_triples}
-use Rattle.sk_publishing.specs.Terms.{sights}
 use Rattle.sk_publishing.specs.Input.{Begins}
 use Rattle.sk_audit.specs.declared.walking.Account.{Account}
 use Rattle.sk_audit.specs.Audit.{Audit, HasBadSettings, HasItems, audit_of, input_of, table_of, IsFirstDifference}
 use Rattle.sk_audit.specs.Claimed.{IsNewKernel, NoneClaims}
-use Rattle.sk_audit.specs.Items.{AreItems}
 use Rattle.sk_audit.specs.Scene.{SceneView, terms}
 use Rattle.sk_audit.specs.Walked.{IsStopped}
 use Rattle.sk_audit.proofs.Answered.{on_none, on_some}
@@ -92,7 +89,7 @@ returns-in_default-2 c =
     let values : List Value = c.in-Some-claimed.values.now in
     let items : HasItems a block values = has_items a block c.as_slice.result.now values same c.in-Some-claimed.ensures.some in
     let stop = subst (λ (s : SceneView). IsStopped (terms s) s.rows) c.new-scene.ensures
-        (subst (λ (o : Option Account). IfNone o (IsStopped (terms c.new-scene.result) c.new-scene.result.rows)) c.in_default-2.is c.in_ok-account.ensures.none) in
+    (subst (λ (o : Option Account). IfNone o (IsStopped (terms c.new-scene.result) c.new-scene.result.rows)) c.in_default-2.is c.in_ok-account.ensures.none) in
     refuses_chain a good block stands values items (stopped a old values begins.last stop.0 stop.1)
 
 pub new_kernel-requires-clause-begins : goal.new_kernel-requires-clause-begins
@@ -120,7 +117,7 @@ returns-in_default-3 c =
     let values : List Value = c.in-Some-claimed.values.now in
     let items : HasItems a block values = has_items a block c.as_slice.result.now values same c.in-Some-claimed.ensures.some in
     let none : NoneClaims a.input values = subst (λ (s : SceneView). NoneClaims (input_of c.args.triples.now s.clock s.rows s.settings) values) c.new-scene.ensures
-        (subst (λ (o : Option TriplesView). IfNone o (NoneClaims (input_of c.args.triples.now c.new-scene.result.clock c.new-scene.result.rows c.new-scene.result.settings) values)) c.in_default-3.is c.in_ok-kernel.ensures.none) in
+    (subst (λ (o : Option TriplesView). IfNone o (NoneClaims (input_of c.args.triples.now c.new-scene.result.clock c.new-scene.result.rows c.new-scene.result.settings) values)) c.in_default-3.is c.in_ok-kernel.ensures.none) in
     refuses_chain a good block stands values items (λ chain. none a refl chain)
 
 pub first_difference-requires-clause-covered : goal.first_difference-requires-clause-covered
@@ -132,10 +129,10 @@ first_difference-requires-clause-covered c =
     let kernel : TriplesView = c.in-Some-3.kernel in
     let account : Account = c.in-Some-2.account in
     let made = subst (λ (o : Option TriplesView). IfSome o (λ k. IsNewKernel (input_of c.args.triples.now c.new-scene.result.clock c.new-scene.result.rows c.new-scene.result.settings) c.new-scene.result.start.old values account k
-        × AreOf c.new-scene.result.clock k)) c.in-Some-3.is c.in_ok-kernel.ensures.some in
+    × AreOf c.new-scene.result.clock k)) c.in-Some-3.is c.in_ok-kernel.ensures.some in
     let k : IsNewKernel a.input old values account kernel = subst (λ (s : SceneView). IsNewKernel (input_of c.args.triples.now s.clock s.rows s.settings) s.start.old values account kernel) c.new-scene.ensures made.0 in
     let covered : All (λ (row : RowView). covering kernel.triples row.tick ≢ None) rows = λ i d less none. c.if-has_early.ensures.no refl i d less
-        (covered_front a.input.triples (new_triples k.chain) (get_or rows i d).tick (subst (λ (ts : List TripleView). covering ts (get_or rows i d).tick ≡ None) k.triples none)) in
+    (covered_front a.input.triples (new_triples k.chain) (get_or rows i d).tick (subst (λ (ts : List TripleView). covering ts (get_or rows i d).tick ≡ None) k.triples none)) in
     subst (λ (ts : List TripleView). All (λ (row : RowView). covering ts row.tick ≢ None) c.new-table.result.observations.now)
     (sym (ap (λ (t : TriplesView). t.triples) c.new-table.ensures.triples))
     (subst (All (λ (row : RowView). covering kernel.triples row.tick ≢ None)) (sym c.new-table.ensures.observations) covered)
@@ -155,7 +152,7 @@ returns-in-None c =
     let kernel : TriplesView = c.in-Some-3.kernel in
     let account : Account = c.in-Some-2.account in
     let made = subst (λ (o : Option TriplesView). IfSome o (λ k. IsNewKernel (input_of c.args.triples.now c.new-scene.result.clock c.new-scene.result.rows c.new-scene.result.settings) c.new-scene.result.start.old values account k
-        × AreOf c.new-scene.result.clock k)) c.in-Some-3.is c.in_ok-kernel.ensures.some in
+    × AreOf c.new-scene.result.clock k)) c.in-Some-3.is c.in_ok-kernel.ensures.some in
     let k : IsNewKernel a.input old values account kernel = subst (λ (s : SceneView). IsNewKernel (input_of c.args.triples.now s.clock s.rows s.settings) s.start.old values account kernel) c.new-scene.ensures made.0 in
     let n = c.first_new_of-first_new.result in
     let news = c.first_new_of-first_new.ensures in
@@ -164,8 +161,8 @@ returns-in-None c =
     let marks = c.in_ok-marks.ensures in
     let text : block.text ≡ c.block.inside.text = sym (ap (λ (b : BlockView). b.text) c.block.view_is) in
     accepts a good block stands values items _ has (text ∙ text_same a c.args.settings.now c.args.triples.now old values account kernel n c.in-Some.start.seam refl begins c.requires.rows start.seam news.olds news.new news.within k
-        c.new-table.result c.new-table.ensures.clock c.new-table.ensures.observations (ap (λ (t : TriplesView). t.triples) c.new-table.ensures.triples) c.in_ok-marks.marks c.new-table.ensures.marks marks.first marks.dropped marks.many marks.ends c.block.inside.text
-        (on_none _ c.in-None.is c.in_ok-first_difference.ensures.same))
+    c.new-table.result c.new-table.ensures.clock c.new-table.ensures.observations (ap (λ (t : TriplesView). t.triples) c.new-table.ensures.triples) c.in_ok-marks.marks c.new-table.ensures.marks marks.first marks.dropped marks.many marks.ends c.block.inside.text
+    (on_none _ c.in-None.is c.in_ok-first_difference.ensures.same))
 
 pub returns : goal.returns
 returns c =
@@ -182,7 +179,7 @@ returns c =
     let kernel : TriplesView = c.in-Some-3.kernel in
     let account : Account = c.in-Some-2.account in
     let made = subst (λ (o : Option TriplesView). IfSome o (λ k. IsNewKernel (input_of c.args.triples.now c.new-scene.result.clock c.new-scene.result.rows c.new-scene.result.settings) c.new-scene.result.start.old values account k
-        × AreOf c.new-scene.result.clock k)) c.in-Some-3.is c.in_ok-kernel.ensures.some in
+    × AreOf c.new-scene.result.clock k)) c.in-Some-3.is c.in_ok-kernel.ensures.some in
     let k : IsNewKernel a.input old values account kernel = subst (λ (s : SceneView). IsNewKernel (input_of c.args.triples.now s.clock s.rows s.settings) s.start.old values account kernel) c.new-scene.ensures made.0 in
     let n = c.first_new_of-first_new.result in
     let news = c.first_new_of-first_new.ensures in
@@ -192,6 +189,6 @@ returns c =
     let text : block.text ≡ c.block.inside.text = sym (ap (λ (b : BlockView). b.text) c.block.view_is) in
     let line = c.in-Some-4.line in
     let differs = text_differs a c.args.settings.now c.args.triples.now old values account kernel n c.in-Some.start.seam refl begins c.requires.rows start.seam news.olds news.new news.within k
-        c.new-table.result c.new-table.ensures.clock c.new-table.ensures.observations (ap (λ (t : TriplesView). t.triples) c.new-table.ensures.triples) c.in_ok-marks.marks c.new-table.ensures.marks marks.first marks.dropped marks.many marks.ends c.block.inside.text line
-        (on_some _ _ line c.in-Some-4.is c.in_ok-first_difference.ensures.differs) in
+    c.new-table.result c.new-table.ensures.clock c.new-table.ensures.observations (ap (λ (t : TriplesView). t.triples) c.new-table.ensures.triples) c.in_ok-marks.marks c.new-table.ensures.marks marks.first marks.dropped marks.many marks.ends c.block.inside.text line
+    (on_some _ _ line c.in-Some-4.is c.in_ok-first_difference.ensures.differs) in
     refuses_table a good block stands values items _ has line (subst (λ (ls : List (List ℕ)). IsFirstDifference ls (table_of a (chain_of a c.args.settings.now c.args.triples.now old values account kernel n c.in-Some.start.seam refl begins c.requires.rows start.seam news.olds news.new news.within k)) line) (sym text) differs)

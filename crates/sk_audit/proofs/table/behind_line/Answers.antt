@@ -1,4 +1,4 @@
-use Rattle.std.proofs.Common.{◌≡◌, ℕ, List, [], ◌∷◌, ap, sym, ◌∙◌}
+use Rattle.std.proofs.Common.{ℕ, List, ◌∷◌, ap, sym, ◌∙◌}
 use Rattle.sk_grammar.specs.Lines.{held_lines}
 use Rattle.sk_grammar.proofs.HeldLines.{held_front, none_held}
 use Rattle.sk_audit.proofs.Answered.{no_line, same_front, untrue}

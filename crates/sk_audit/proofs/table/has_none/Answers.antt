@@ -1,5 +1,4 @@
-use Rattle.std.proofs.Common.{◌≡◌, ℕ, List, [], ◌∷◌, sym, ◌∙◌, false, IsTrue}
-use Rattle.sk_grammar.specs.Lines.{held_lines}
+use Rattle.std.proofs.Common.{sym, ◌∙◌}
 use Rattle.sk_grammar.proofs.HeldLines.{held_front, none_held}
 use Rattle.sk_audit.proofs.Answered.{no_line}
 use Rattle.sk_audit.proofs.table.has_none.Goals as goal

@@ -1,11 +1,10 @@
-use Rattle.std.proofs.Common.{◌≡◌, ℕ, ◌+◌, List, [], ◌∷◌, ◌++◌, length, refl, sym, ap, ◌∙◌, arith}
-use Rattle.std.specs.Prelude.{slice_get}
+use Rattle.std.proofs.Common.{◌≡◌, ℕ, List, [], ◌∷◌, refl, sym, ap, ◌∙◌, arith}
 use Rattle.sk_grammar.specs.Lines.{held_lines}
 use Rattle.sk_audit.specs.Tables.{head_of, lines_from, line_of, lines_of}
 use Rattle.sk_audit.proofs.Answered.{untrue}
 use Rattle.sk_audit.proofs.Same.{lines_held}
 use Rattle.sk_audit.proofs.Differing.{first_differs, other_line}
-use Rattle.sk_audit.proofs.Comparing.{row_at, differs_at, more_lines, more_stand, none_more}
+use Rattle.sk_audit.proofs.Comparing.{row_at, differs_at, more_lines, more_stand}
 use Rattle.sk_audit.proofs.table.Table.first_difference.Goals as goal
 
 pub returns-in_default-clause-differs : goal.returns-in_default-clause-differs
@@ -16,7 +15,7 @@ returns-in_default-clause-differs c =
     let held : held_lines c.as_text.result.now ≡ lines = ap held_lines c.as_text.ensures ∙ lines_held lines c.requires.valid in
     let head : c.as_slice.result.now ≡ head_of rows = c.as_slice.ensures.value ∙ c.head_line.ensures in
     first_differs [] lines (lines_of t) 1 refl (other_line lines (head_of rows) (lines_from t 0 rows)
-        (λ more e. c.in_default.ensures.none more (held ∙ e ∙ ap (λ (l : List ℕ). l ∷ more) (sym head))))
+    (λ more e. c.in_default.ensures.none more (held ∙ e ∙ ap (λ (l : List ℕ). l ∷ more) (sym head))))
 
 pub loop-place-init : goal.loop-place-init
 loop-place-init c =

@@ -21,10 +21,10 @@ returns c =
     let kind = c.kind_at-kind.result.now in
     let ended = c.as_slice.result.now in
     on_ok_weaker c.write_line.result (λ written row here.
-      subst (λ (r : RowView). c.write_line.new.out.items ≡ line_of t c.args.place r) (get_or_from_slice_get t.observations.now c.args.place row found here) (
-        written
-        ∙ ap (λ (l : List ℕ). line_with seen l timed kind ended) (c.as_str.ensures.value ∙ c.in_ok-text.ensures)
-        ∙ ap (λ (l : List ℕ). line_with seen text timed l ended) c.kind_at-kind.ensures
-        ∙ ap (λ (l : List ℕ). line_with seen text timed (kind_word t.marks.now c.args.place) l) (c.as_slice.ensures.value ∙ c.end_at-ended.ensures)
-        ∙ row_is clock t.triples.now seen timed _ _ (subst (λ (n : ℕ). IsTimed t.triples.now n timed) tick_is c.in-Ok.ensures.timed.1) c.requires.triples.0
-      )) c.write_line.ensures
+    subst (λ (r : RowView). c.write_line.new.out.items ≡ line_of t c.args.place r) (get_or_from_slice_get t.observations.now c.args.place row found here) (
+    written
+    ∙ ap (λ (l : List ℕ). line_with seen l timed kind ended) (c.as_str.ensures.value ∙ c.in_ok-text.ensures)
+    ∙ ap (λ (l : List ℕ). line_with seen text timed l ended) c.kind_at-kind.ensures
+    ∙ ap (λ (l : List ℕ). line_with seen text timed (kind_word t.marks.now c.args.place) l) (c.as_slice.ensures.value ∙ c.end_at-ended.ensures)
+    ∙ row_is clock t.triples.now seen timed _ _ (subst (λ (n : ℕ). IsTimed t.triples.now n timed) tick_is c.in-Ok.ensures.timed.1) c.requires.triples.0
+    )) c.write_line.ensures
