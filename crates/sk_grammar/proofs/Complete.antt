@@ -194,7 +194,7 @@ name_read name [] rest Append is_name white apart =
     let front : take (length (name ++ codes "+") - 1) (name ++ codes "+") ≡ name = rw (last) (take-length-append name (codes "+")) in
     ap name_at grouped ∙ ap (name_of_run ((name ++ codes "+") ++ (61 ∷ rest))) run ∙ provided _ _ _ (and_from _ _ ends sign) ∙ front
 
-same_item : (a b : ItemView) → a.name ≡ b.name → a.op ≡ b.op → a.values ≡ b.values → a ≡ b
+pub same_item : (a b : ItemView) → a.name ≡ b.name → a.op ≡ b.op → a.values ≡ b.values → a ≡ b
 same_item a b name op values = λ i. record { name = name i; op = op i; values = values i }
 
 pub one_result : {a b : Place} (r : Result Place Reason) → r ≡ Ok a → r ≡ Ok b → a ≡ b

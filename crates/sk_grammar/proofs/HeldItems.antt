@@ -1,10 +1,9 @@
 -- Items are read back from their lines.
-use Rattle.std.proofs.Common.{◌≡◌, ℕ, ◌+◌, ◌<◌, ◌≤◌, suc, List, [], ◌∷◌, ◌++◌, length, Bool, true, false, ◌||◌, refl, ap, sym, ◌∙◌, append_assoc, subst, arith, length-append, Ok, Err, Result}
-use Rattle.std.specs.List.{All, list_all, list_any, flat_map, join_with_byte}
+use Rattle.std.proofs.Common.{◌≡◌, ℕ, ◌<◌, ◌≤◌, suc, List, [], ◌∷◌, ◌++◌, length, false, refl, ap, sym, ◌∙◌, append_assoc, subst, arith, length-append, Ok, Err, Result}
+use Rattle.std.specs.List.{All, list_any, flat_map, join_with_byte}
 use Rattle.std.proofs.lemmas.List.Concat.{flat_map-append}
 use Rattle.std.proofs.lemmas.List.Elements.{All-push, All-nil, All-cons}
 use Rattle.std.specs.Prelude.{IfOk}
-use Rattle.std.proofs.lemmas.Bool.{and_parts}
 use Rattle.std.proofs.lemmas.List.Folds.{list_any-append}
 use Rattle.sk_decimal.specs.Reading.{number_of}
 use Rattle.sk_decimal.proofs.Exact.{number_is}
@@ -20,7 +19,7 @@ use Rattle.sk_grammar.specs.Reading.{◌>>=◌, read_from, end_line}
 use Rattle.sk_grammar.specs.HeldItems.{joined_by, line_of_items, items_of_lines, items_if_read, held_items, items_text, HoldsItems}
 use Rattle.sk_grammar.specs.Taken.{IsSplitAtFeed}
 use Rattle.sk_grammar.proofs.Complete as complete
-use Rattle.sk_grammar.proofs.AllRead.{LineRead, line_read}
+use Rattle.sk_grammar.proofs.AllRead.{line_read}
 use Rattle.sk_grammar.proofs.CanonicalLines.{item_feeds}
 use Rattle.sk_grammar.proofs.Leaves.{item_of}
 use Rattle.sk_grammar.proofs.Lists.{append-[], or_parts}
@@ -63,7 +62,7 @@ item_read : (items : List ItemView) (item : ItemView) (rest : List (List ℕ)) �
 item_read items item rest valid =
     lines_read (item_lines item) items item rest (item_feeds item valid) (complete.item_read number_of number_is item (join_with_byte 10 (item_lines item)) (item_written item valid))
 
-first_valid : (item : ItemView) (items : List ItemView) → All IsItem (item ∷ items) → IsItem item × All IsItem items
+pub first_valid : (item : ItemView) (items : List ItemView) → All IsItem (item ∷ items) → IsItem item × All IsItem items
 first_valid item items all = (all 0 item (omega arith), λ k d below. all (suc k) d (omega arith))
 
 all_read : (more items : List ItemView) → All IsItem more → items_of_lines items Idle (flat_map item_lines more) ≡ Ok (items ++ more)
@@ -79,10 +78,10 @@ ended_last [] = refl
 ended_last (line ∷ []) = refl
 ended_last (line ∷ next ∷ ls) = ap (λ (x : List (List ℕ)). line ∷ x) (ended_last (next ∷ ls))
 
-held_of_ended : (ls : List (List ℕ)) → list_any (list_any is_line_feed) ls ≡ false → held_lines (ended_by_line_feeds ls) ≡ ls
+pub held_of_ended : (ls : List (List ℕ)) → list_any (list_any is_line_feed) ls ≡ false → held_lines (ended_by_line_feeds ls) ≡ ls
 held_of_ended ls feeds = ap ended_parts (split_lines ls feeds) ∙ ended_last ls
 
-all_feeds : (items : List ItemView) → All IsItem items → list_any (list_any is_line_feed) (flat_map item_lines items) ≡ false
+pub all_feeds : (items : List ItemView) → All IsItem items → list_any (list_any is_line_feed) (flat_map item_lines items) ≡ false
 all_feeds [] valid = refl
 all_feeds (item ∷ items) valid =
     let v = first_valid item items valid in

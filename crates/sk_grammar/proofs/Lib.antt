@@ -36,5 +36,6 @@ pub mod PlainTexts
 pub mod PlainLines
 pub mod CanonicalLines
 pub mod HeldItems
+pub mod OneByOne
 pub mod HeldValues
 pub mod Threes

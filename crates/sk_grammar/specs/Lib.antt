@@ -18,4 +18,5 @@ pub mod DataLines
 pub mod Quotes
 pub mod Writing
 pub mod HeldItems
+pub mod OneByOne
 pub mod HeldValues

@@ -3,7 +3,7 @@
 ghost use Rattle.std.specs.Prelude.{◌≡◌, ◌≤◌, ◌++◌, [], ◌∷◌, All, IfOk, false, length, Ok};
 ghost use Rattle.std.specs.List.{list_any};
 ghost use Rattle.sk_grammar.specs.Document.{IsItem};
-ghost use Rattle.sk_grammar.specs.HeldItems.{items_text, line_of_items};
+ghost use Rattle.sk_grammar.specs.HeldItems.{held_items, items_text, line_of_items, HoldsItems};
 ghost use Rattle.sk_grammar.specs.Lines.{is_line_feed};
 
 use crate::document::Item;
@@ -98,6 +98,14 @@ impl Items {
     pub fn as_text(&self) -> &[u8]
         ensures text { result.now ≡ items_text self.now }
         ensures count { length self.now ≤ length result.now }
+    {
+        self.text.as_slice()
+    }
+
+    /// The text that the items are held as.
+    pub(crate) fn as_bytes(&self) -> &[u8]
+        ensures value { held_items result.now ≡ self.now }
+        ensures holds { HoldsItems result.now }
     {
         self.text.as_slice()
     }

@@ -8,6 +8,7 @@ mod ending;
 mod fault;
 mod item_text;
 mod items;
+mod items_left;
 mod laws;
 mod lines;
 mod list;
@@ -29,6 +30,7 @@ pub use bytes::Bytes;
 pub use document::{Block, Doc, Item};
 pub use fault::{GrammarFault, Reason};
 pub use items::Items;
+pub use items_left::ItemsLeft;
 pub use laws::{
     always_one, canonical_text_spells, item_lines_spell, never_both, one_document, one_item,
     one_reason, one_refusal,

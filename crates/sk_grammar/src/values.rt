@@ -154,7 +154,8 @@ impl Values {
     pub fn to_list(&self, alloc: Global) -> Result<List<Value>, AllocError>
         ensures { IfOk result (λ values. values ≡ self.now) }
     {
-        let mut values = List::from_vec(Vec::new(alloc));
+        // Most items have one value, and there can be millions of them: room for one, and more where more come.
+        let mut values = List::from_vec(Vec::with_capacity(alloc, 1)?);
         let mut rest = self.text.as_slice();
         while let Some((line, behind)) = split_line(rest) {
             // The spelling of a value is read, so only memory can be wanting.

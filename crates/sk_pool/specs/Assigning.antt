@@ -1,5 +1,5 @@
 -- The variables after each item in turn: what the code computes.
-use Rattle.std.specs.Prelude.{◌≡◌, ℕ, suc, ◌+◌, ◌<◌, Bool, true, false, List, [], ◌∷◌, ◌++◌, length, All, flat_map, Option, Some, None, option_map, Result, Ok, Err, unwrap_or, if◌then◌else◌}
+use Rattle.std.specs.Prelude.{◌≡◌, ℕ, suc, ◌+◌, ◌<◌, Bool, true, false, List, [], ◌∷◌, ◌++◌, length, All, Option, Some, None, option_map, Result, Ok, Err, unwrap_or, if◌then◌else◌}
 use Rattle.std.specs.Str.{bytes_eq}
 use Rattle.std.specs.Cmp.Lexicographic.{slice_cmp}
 use Rattle.std.specs.Ordering.{nat_cmp}
@@ -35,10 +35,6 @@ is_mixing variables item = adds_mixed (unwrap_or (values_at item.name variables)
 abbrev pub all_assigned : List VariableView → ℕ → List ItemView → Result (List VariableView) ℕ
 all_assigned variables n [] = Ok variables
 all_assigned variables n (item ∷ items) = if is_mixing variables item then Err n else all_assigned (assigned variables item) (n + 1) items
-
--- the items of all lists
-abbrev pub all_of : List (List ItemView) → List ItemView
-all_of lists = flat_map (λ items. items) lists
 
 -- the first place of the name
 abbrev pub place_in : List (List ℕ) → List ℕ → Option ℕ

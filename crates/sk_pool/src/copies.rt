@@ -11,7 +11,7 @@ use std::alloc::Global;
 pub fn copied_bytes(alloc: Global, bytes: &Bytes) -> Result<Bytes, NoMemory>
     ensures { IfOk result (λ copy. copy ≡ bytes.now) }
 {
-    Ok(Bytes::from_vec(Vec::from_slice(alloc, bytes.as_slice())?))
+    Ok(Bytes::copied(alloc, bytes.as_slice())?)
 }
 
 fn copied_value(alloc: Global, value: &Value) -> Result<Value, NoMemory>
@@ -42,7 +42,7 @@ pub(crate) fn append_copies(
 pub fn copied_values(alloc: Global, values: &[Value]) -> Result<List<Value>, NoMemory>
     ensures { IfOk result (λ copies. copies ≡ values.now) }
 {
-    let mut copies = List::from_vec(Vec::new(alloc));
+    let mut copies = List::from_vec(Vec::with_capacity(alloc, values.len())?);
     append_copies(alloc, &mut copies, values)?;
     Ok(copies)
 }

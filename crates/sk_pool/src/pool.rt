@@ -8,7 +8,7 @@ ghost use Rattle.sk_pool.specs.Pool.{pool_checks, IsOneNumber, set_item};
 ghost use Rattle.sk_pool.specs.declared.pool.PoolFault.TheVariants.{NoMemory};
 
 use crate::number::only_number;
-use crate::table::{Table, item_lists, table_of};
+use crate::table::{Table, table_of};
 use sk_decimal::Decimal;
 use sk_grammar::{Bytes, Doc, List, Value};
 use std::alloc::{AllocError, AllocFailed, Global};
@@ -69,8 +69,7 @@ impl Pool {
         requires { length (items_of doc.now) < 2 ^ 32 }
         ensures { JudgesUnless PoolFault.NoMemory (pool_checks doc.now) (λ pool. pool ≡ variables_of (items_of doc.now)) result }
     {
-        let lists = item_lists(alloc, doc)?;
-        let Table { names, values, .. } = table_of(alloc, lists.as_slice())?;
+        let Table { names, values, .. } = table_of(alloc, doc)?;
         Ok(Pool {
             names: List::from_vec(names),
             values: List::from_vec(values),

@@ -1,12 +1,12 @@
 //! The variables while a document's items are taken.
 
-ghost use Rattle.std.specs.Prelude.{◌≡◌, ◌+◌, ◌^◌, ◌<◌, [], length, map, Some, None, Ok, false, true, OnOk, IfOk, IfErr};
-ghost use Rattle.sk_pool.specs.Assigning.{IsTable, variables_in, place_in, values_behind, adds_mixed, is_mixing, assigned, all_assigned, all_of, AreOneKind, IsMixedOf, IsMixing};
+ghost use Rattle.std.specs.Prelude.{◌≡◌, ◌+◌, ◌^◌, ◌<◌, [], length, Some, None, Ok, false, true, OnOk, IfOk, IfErr};
+ghost use Rattle.sk_pool.specs.Assigning.{IsTable, variables_in, place_in, values_behind, adds_mixed, is_mixing, assigned, all_assigned, AreOneKind, IsMixedOf, IsMixing};
+ghost use Rattle.sk_grammar.specs.Variables.{items_of};
 
-use crate::copies::{append_copies, begins_text, copied_bytes, copied_values};
+use crate::copies::{append_copies, begins_text, copied_values};
 use crate::pool::PoolFault;
-use sk_checks::NoMemory;
-use sk_grammar::{Bytes, Doc, Item, List, Op, Value};
+use sk_grammar::{Bytes, Doc, Item, Items, List, Op, Value};
 use std::alloc::Global;
 use std::collections::BTreeMap;
 
@@ -80,71 +80,67 @@ impl<'a> Table<'a> {
         Ok(())
     }
 
-    // Takes the first item of a variable.
-    fn create(&mut self, alloc: Global, item: &'a Item) -> Result<(), PoolFault>
+    // Takes the first item of a variable, which has this name.
+    fn create(&mut self, name: &'a [u8], item: Item) -> Result<(), PoolFault>
         requires table { IsTable self.old }
-        requires place { place_in self.old.names.items item.now.name ≡ None }
-        ensures ok { OnOk result (IsTable self.new × (self.new.count ≡ self.old.count) × (is_mixing (variables_in self.old) item.now ≡ false)
-            × (variables_in self.new ≡ assigned (variables_in self.old) item.now)) }
+        requires name { name.now ≡ item.name }
+        requires place { place_in self.old.names.items item.name ≡ None }
+        ensures ok { OnOk result (IsTable self.new × (self.new.count ≡ self.old.count) × (is_mixing (variables_in self.old) item ≡ false)
+            × (variables_in self.new ≡ assigned (variables_in self.old) item)) }
         ensures mixed { IfErr result (IsMixing self.old.count false) }
     {
-        self.places.insert(item.name.as_slice(), self.names.len())?;
-        self.names.push(copied_bytes(alloc, &item.name)?)?;
-        self.values
-            .push(copied_values(alloc, item.values.as_slice())?)?;
+        self.places.insert(name, self.names.len())?;
+        let Item {
+            name: own_name,
+            op: _,
+            values,
+        } = item;
+        self.names.push(own_name)?;
+        self.values.push(values)?;
         Ok(())
     }
 
-    // Takes one more item.
-    fn assign(&mut self, alloc: Global, item: &'a Item) -> Result<(), PoolFault>
+    // Takes one more item, which has this name.
+    fn assign(&mut self, alloc: Global, name: &'a [u8], item: Item) -> Result<(), PoolFault>
         requires table { IsTable self.old }
+        requires name { name.now ≡ item.name }
         requires count { self.old.count + 1 < 2 ^ 32 }
-        ensures ok { OnOk result (IsTable self.new × (self.new.count ≡ self.old.count + 1) × (is_mixing (variables_in self.old) item.now ≡ false)
-            × (variables_in self.new ≡ assigned (variables_in self.old) item.now)) }
-        ensures mixed { IfErr result (IsMixing (self.old.count + 1) (is_mixing (variables_in self.old) item.now)) }
+        ensures ok { OnOk result (IsTable self.new × (self.new.count ≡ self.old.count + 1) × (is_mixing (variables_in self.old) item ≡ false)
+            × (variables_in self.new ≡ assigned (variables_in self.old) item)) }
+        ensures mixed { IfErr result (IsMixing (self.old.count + 1) (is_mixing (variables_in self.old) item)) }
     {
         self.count += 1;
-        match self.place(item.name.as_slice()) {
-            Some(place) => self.change(alloc, place, item),
-            None => self.create(alloc, item),
+        match self.place(name) {
+            Some(place) => self.change(alloc, place, &item),
+            None => self.create(name, item),
         }
     }
 
-    /// Takes these items, in order.
-    pub fn assign_all(&mut self, alloc: Global, items: &'a [Item]) -> Result<(), PoolFault>
+    /// Takes these items, in order, of which one at a time is read.
+    pub fn assign_all(&mut self, alloc: Global, items: &'a Items) -> Result<(), PoolFault>
         requires table { IsTable self.old }
         requires count { self.old.count + length items.now < 2 ^ 32 }
         ensures ok { OnOk result (IsTable self.new × (self.new.count ≡ self.old.count + length items.now)
             × (all_assigned (variables_in self.old) (self.old.count + 1) items.now ≡ Ok (variables_in self.new))) }
         ensures mixed { IfErr result (IsMixedOf (all_assigned (variables_in self.old) (self.old.count + 1) items.now)) }
     {
-        for item in items {
-            self.assign(alloc, item)?;
+        let mut left = items.left();
+        while let Some((name, item)) = left.next(alloc)? {
+            self.assign(alloc, name, item)?;
         }
         Ok(())
     }
 }
 
-/// The items of each block of the document.
-pub(crate) fn item_lists(alloc: Global, doc: &Doc) -> Result<List<List<Item>>, NoMemory>
-    ensures { IfOk result (λ lists. lists ≡ map (λ block. block.items) doc.now.blocks) }
-{
-    let mut lists = List::from_vec(Vec::new(alloc));
-    for block in doc.blocks.as_slice() {
-        lists.push(block.items.to_list(alloc)?)?;
-    }
-    Ok(lists)
-}
-
-/// The table of all items.
-pub(crate) fn table_of(alloc: Global, lists: &[List<Item>]) -> Result<Table<'_>, PoolFault>
-    requires { length (all_of lists.now) < 2 ^ 32 }
-    ensures ok { IfOk result (λ table. IsTable table × (all_assigned [] 1 (all_of lists.now) ≡ Ok (variables_in table))) }
-    ensures mixed { IfErr result (IsMixedOf (all_assigned [] 1 (all_of lists.now))) }
+/// The table of all items of the document.
+pub(crate) fn table_of(alloc: Global, doc: &Doc) -> Result<Table<'_>, PoolFault>
+    requires { length (items_of doc.now) < 2 ^ 32 }
+    ensures ok { IfOk result (λ table. IsTable table × (all_assigned [] 1 (items_of doc.now) ≡ Ok (variables_in table))) }
+    ensures mixed { IfErr result (IsMixedOf (all_assigned [] 1 (items_of doc.now))) }
 {
     let mut table = Table::new(alloc);
-    for items in lists {
-        table.assign_all(alloc, items.as_slice())?;
+    for block in doc.blocks.as_slice() {
+        table.assign_all(alloc, &block.items)?;
     }
     Ok(table)
 }

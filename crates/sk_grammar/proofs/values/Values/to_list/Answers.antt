@@ -1,4 +1,4 @@
-use Rattle.std.proofs.Common.{List, ℕ, [], ◌++◌, ap, ◌∙◌}
+use Rattle.std.proofs.Common.{List, ◌++◌, ap, ◌∙◌}
 use Rattle.sk_grammar.specs.declared.value.Value.{Value}
 use Rattle.sk_grammar.specs.HeldValues.{held_values}
 use Rattle.sk_grammar.proofs.HeldValues.{value_next, values_taken}
@@ -6,7 +6,7 @@ use Rattle.sk_grammar.proofs.values.Values.to_list.Goals as goal
 
 pub loop-line-init : goal.loop-line-init
 loop-line-init c =
-    ap (λ (values : List Value). values ++ held_values c.as_slice-rest.result.now) (c.from_vec-values.ensures ∙ c.new.ensures.items)
+    ap (λ (values : List Value). values ++ held_values c.as_slice-rest.result.now) (c.from_vec-values.ensures ∙ c.in_ok-with_capacity.ensures.items)
     ∙ ap held_values c.as_slice-rest.ensures.value ∙ c.self.view_is
 
 pub loop-line-preserved : goal.loop-line-preserved
