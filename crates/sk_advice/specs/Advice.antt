@@ -14,6 +14,8 @@ use Rattle.sk_leap.specs.declared.utc.UtcFault.{UtcFault}
 use Rattle.sk_leap.specs.declared.utc.UtcFault.TheVariants.{BeforeTable, NotInDay, PastRange}
 use Rattle.sk_obs.specs.declared.fault.ObsFault.{ObsFault}
 use Rattle.sk_obs.specs.declared.fault.ObsFault.TheVariants as obs
+use Rattle.sk_fit.specs.declared.fault.Barrier.{Barrier}
+use Rattle.sk_fit.specs.declared.fault.Barrier.TheVariants.{OldLine, Pair}
 use Rattle.sk_fit.specs.declared.fault.FitFault.{FitFault}
 use Rattle.sk_fit.specs.declared.fault.FitFault.TheVariants as fit
 use Rattle.sk_status.specs.declared.status.ObsStop.{ObsStop}
@@ -29,7 +31,7 @@ use Rattle.sk_advice.specs.declared.subject.Subject.TheVariants as subject
 use Rattle.sk_advice.specs.Sentences.{sentences}
 use Rattle.sk_advice.specs.Causes.{cause_of}
 use Rattle.sk_advice.specs.Cures.{cure_of}
-use Rattle.sk_advice.specs.Subjects.{subject_of, subject_text}
+use Rattle.sk_advice.specs.Subjects.{counted, subject_of, subject_text}
 
 -- clap does not take the words
 abbrev pub words_not_taken : WordsFault → Bool
@@ -98,7 +100,6 @@ further_of_words (NeedOption name) = option_line name
 further_of_words (OutOfRange name) = range_line name (numbers_of name)
 
 abbrev pub further_of_record : ObsFault → List ℕ
-further_of_record obs.Header = codes "Is it UTF-16 (save it as UTF-8), is it empty, or is there no header, or a line before it?"
 further_of_record (obs.TimeForm number) = codes "no offset as +00:00, at most 12 decimals, and a day that its month has."
 further_of_record _ = []
 
@@ -106,8 +107,18 @@ abbrev pub further_of_observation : ObsStop → List ℕ
 further_of_observation (obs_stop.Record fault) = further_of_record fault
 further_of_observation _ = []
 
+-- the records of a pair
+abbrev pub pair_line : ℕ → ℕ → List ℕ
+pair_line low high = counted (codes "Each allowed rate is too small at record ") low ++ (counted (codes " or too large at record ") high
+    ++ codes "; station residuals tells how far each is off.")
+
+-- why the line before a record could not go on to it
+abbrev pub barrier_line : Barrier → List ℕ
+barrier_line OldLine = codes "The line of the kernel's last triple misses it too; station residuals tells by how much."
+barrier_line (Pair low high) = pair_line low high
+
 abbrev pub further_of_fit : FitFault → List ℕ
-further_of_fit (fit.NoRate number) = codes "look at it and the record before: station residuals by the old kernel, then sort -t';' -gk5."
+further_of_fit (fit.NoRate number barrier) = barrier_line barrier
 further_of_fit _ = []
 
 abbrev pub further_of : Status → List ℕ

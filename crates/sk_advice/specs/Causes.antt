@@ -42,6 +42,7 @@ use Rattle.sk_status.specs.declared.status.ObsStop.{ObsStop}
 use Rattle.sk_status.specs.declared.status.ObsStop.TheVariants as obs_stop
 use Rattle.sk_fit.specs.declared.fault.FitFault.{FitFault}
 use Rattle.sk_fit.specs.declared.fault.FitFault.TheVariants as fit
+use Rattle.sk_advice.specs.Headers.{cause_of_header}
 use Rattle.sk_audit.specs.declared.verdict.AuditFault.{AuditFault}
 use Rattle.sk_audit.specs.declared.verdict.AuditFault.TheVariants as audit
 use Rattle.sk_excerpt.specs.declared.fault.ExcerptFault.{ExcerptFault}
@@ -211,7 +212,7 @@ cause_of_utc utc.PastRange = codes "the time is past 9*10^9 s from J2000."
 
 -- of observations
 abbrev pub cause_of_record : ObsFault → List ℕ
-cause_of_record obs.Header = codes "the first record is not id,clock,time,delay, or there is none."
+cause_of_record (obs.Header cause) = cause_of_header cause
 cause_of_record (obs.FieldCount n) = codes "the record has not four fields."
 cause_of_record (obs.BadId n) =
     codes "the id is empty, has more than 32 bytes, or holds a byte that an id may not have."
@@ -242,8 +243,8 @@ cause_of_observation (obs_stop.Clock fault) = cause_of_clock_word fault
 abbrev pub cause_of_fit : FitFault → List ℕ
 cause_of_fit fit.BadHold = codes "the tick is before the last triple of the kernel, or not in its partition."
 cause_of_fit (fit.OldFalls fall) = codes "where the next triple begins, time falls by more than --slip-ns."
-cause_of_fit fit.BandEmpty = codes "--band-ppm holds no rate that can be written and is above 0 and at most 1000."
-cause_of_fit (fit.NoRate n) = codes "no allowed rate meets this record together with those before it."
+cause_of_fit fit.BandEmpty = codes "no rate with so many --rate-decimals lies within --band-ppm of the kernel's last rate."
+cause_of_fit (fit.NoRate n barrier) = codes "no allowed rate meets this record from where the line before it was left."
 cause_of_fit (fit.TimeFalls n) = codes "it begins a partition, at a time before the one that the kernel gives there."
 cause_of_fit fit.TooMany = codes "old and new triples together are more than 50,000."
 cause_of_fit fit.NoMemory = codes "memory ran out."

@@ -42,6 +42,7 @@ use Rattle.sk_status.specs.declared.status.ObsStop.{ObsStop}
 use Rattle.sk_status.specs.declared.status.ObsStop.TheVariants as obs_stop
 use Rattle.sk_fit.specs.declared.fault.FitFault.{FitFault}
 use Rattle.sk_fit.specs.declared.fault.FitFault.TheVariants as fit
+use Rattle.sk_advice.specs.Headers.{cure_of_header}
 use Rattle.sk_audit.specs.declared.verdict.AuditFault.{AuditFault}
 use Rattle.sk_audit.specs.declared.verdict.AuditFault.TheVariants as audit
 use Rattle.sk_excerpt.specs.declared.fault.ExcerptFault.{ExcerptFault}
@@ -223,8 +224,7 @@ cure_of_utc utc.PastRange = codes "Is the year right?"
 
 -- of observations
 abbrev pub cure_of_record : ObsFault → List ℕ
-cure_of_record obs.Header =
-    codes "Write it just so: small letters, this order, four names, commas alone between them, no blank."
+cure_of_record (obs.Header cause) = cure_of_header cause
 cure_of_record (obs.FieldCount n) = codes "Count the commas. Put a field that holds a comma in double quotes."
 cure_of_record (obs.BadId n) =
     codes "It is 1 to 32 printable ASCII bytes, without blank, double quote, comma, semicolon and backslash."
@@ -258,8 +258,8 @@ cure_of_fit fit.BadHold =
     codes "Leave --hold out, or hold at or after the last triple. docs/DAILY.md tells how to redo earlier ones."
 cure_of_fit (fit.OldFalls fall) = codes "Is the kernel wrong there? To accept the fall, give a greater --slip-ns."
 cure_of_fit fit.BandEmpty = codes "Give more --rate-decimals or a wider --band-ppm."
-cure_of_fit (fit.NoRate n) =
-    codes "It or an earlier record is wrong, or --tol-ns and --band-ppm are too narrow. To see which,"
+cure_of_fit (fit.NoRate n barrier) =
+    codes "Is its time or its delay wrong, or another record's? If all are right, widen --tol-ns or --band-ppm."
 cure_of_fit (fit.TimeFalls n) =
     codes "Does SCLK_PARTITION_END_n end the partition before later than its last reading? Put the end earlier."
 cure_of_fit fit.TooMany = codes "Widen --tol-ns, or start from a kernel without its oldest triples."

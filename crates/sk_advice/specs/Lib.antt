@@ -1,4 +1,5 @@
 pub mod Sentences
+pub mod Headers
 pub mod Causes
 pub mod Cures
 pub mod Subjects

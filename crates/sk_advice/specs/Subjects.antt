@@ -88,7 +88,7 @@ place_of_kernel (kernel_stop.Clock fault) = Spacecraft
 place_of_kernel (kernel_stop.Triples fault) = place_of_triple fault
 
 abbrev pub place_of_record : ObsFault → Place
-place_of_record obs.Header = Whole
+place_of_record (obs.Header cause) = Whole
 place_of_record (obs.FieldCount number) = Record number
 place_of_record (obs.BadId number) = Record number
 place_of_record (obs.ClockRefused number fault) = Record number
@@ -121,7 +121,7 @@ abbrev pub subject_of_fit : FitFault → Subject
 subject_of_fit fit.BadHold = Given opt.Hold
 subject_of_fit (fit.OldFalls fall) = File opt.Kernel (Triple fall.join)
 subject_of_fit fit.BandEmpty = Nothing
-subject_of_fit (fit.NoRate number) = File opt.Obs (Record number)
+subject_of_fit (fit.NoRate number barrier) = File opt.Obs (Record number)
 subject_of_fit (fit.TimeFalls number) = File opt.Obs (Record number)
 subject_of_fit fit.TooMany = File opt.Kernel Whole
 subject_of_fit fit.NoMemory = Nothing

@@ -3,6 +3,7 @@
 ghost use Rattle.std.specs.Prelude.{◌≡◌};
 ghost use Rattle.sk_advice.specs.Causes.{cause_of_reason, cause_of_grammar, cause_of_pool, cause_of_text, cause_of_leap_name, cause_of_leap_fault, cause_of_leap, cause_of_clock_name, cause_of_clock_kernel, cause_of_triples, cause_of_kernel, cause_of_count, cause_of_cuc, cause_of_cds, cause_of_clock_word, cause_of_code, cause_of_utc, cause_of_record, cause_of_range, cause_of_observation, cause_of_fit, cause_of_audit, cause_of_excerpt, cause_of_time, cause_of_words, cause_of};
 
+use crate::headers::header_cause;
 use sk_audit::AuditFault;
 use sk_cds::CdsFault;
 use sk_clock::{ClockFault, ClockKernelFault, ClockName};
@@ -277,7 +278,7 @@ fn record_cause(fault: ObsFault) -> &'static str
     ensures { result.now ≡ cause_of_record fault }
 {
     match fault {
-        ObsFault::Header => "the first record is not id,clock,time,delay, or there is none.",
+        ObsFault::Header(cause) => header_cause(cause),
         ObsFault::FieldCount(_) => "the record has not four fields.",
         ObsFault::BadId(_) => {
             "the id is empty, has more than 32 bytes, or holds a byte that an id may not have."
@@ -329,9 +330,10 @@ fn fit_cause(fault: FitFault) -> &'static str
         }
         FitFault::OldFalls(_) => "where the next triple begins, time falls by more than --slip-ns.",
         FitFault::BandEmpty => {
-            "--band-ppm holds no rate that can be written and is above 0 and at most 1000."
+            "no rate with so many --rate-decimals lies within --band-ppm of the kernel's last rate."
         }
-        FitFault::NoRate(_) => "no allowed rate meets this record together with those before it.",
+        FitFault::NoRate(..) =>
+            "no allowed rate meets this record from where the line before it was left.",
         FitFault::TimeFalls(_) => {
             "it begins a partition, at a time before the one that the kernel gives there."
         }

@@ -3,6 +3,7 @@
 ghost use Rattle.std.specs.Prelude.{◌≡◌};
 ghost use Rattle.sk_advice.specs.Cures.{cure_of_reason, cure_of_grammar, cure_of_pool, cure_of_text, cure_of_leap_name, cure_of_leap_fault, cure_of_leap, cure_of_clock_name, cure_of_clock_kernel, cure_of_triples, cure_of_kernel, cure_of_count, cure_of_cuc, cure_of_cds, cure_of_clock_word, cure_of_code, cure_of_utc, cure_of_record, cure_of_range, cure_of_observation, cure_of_fit, cure_of_audit, cure_of_excerpt, cure_of_time, cure_of_words, cure_of};
 
+use crate::headers::header_cure;
 use sk_audit::AuditFault;
 use sk_cds::CdsFault;
 use sk_clock::{ClockFault, ClockKernelFault, ClockName};
@@ -297,9 +298,7 @@ fn record_cure(fault: ObsFault) -> &'static str
     ensures { result.now ≡ cure_of_record fault }
 {
     match fault {
-        ObsFault::Header => {
-            "Write it just so: small letters, this order, four names, commas alone between them, no blank."
-        }
+        ObsFault::Header(cause) => header_cure(cause),
         ObsFault::FieldCount(_) => {
             "Count the commas. Put a field that holds a comma in double quotes."
         }
@@ -355,8 +354,8 @@ fn fit_cure(fault: FitFault) -> &'static str
             "Is the kernel wrong there? To accept the fall, give a greater --slip-ns."
         }
         FitFault::BandEmpty => "Give more --rate-decimals or a wider --band-ppm.",
-        FitFault::NoRate(_) => {
-            "It or an earlier record is wrong, or --tol-ns and --band-ppm are too narrow. To see which,"
+        FitFault::NoRate(..) => {
+            "Is its time or its delay wrong, or another record's? If all are right, widen --tol-ns or --band-ppm."
         }
         FitFault::TimeFalls(_) => {
             "Does SCLK_PARTITION_END_n end the partition before later than its last reading? Put the end earlier."

@@ -3,12 +3,12 @@
 ghost use Rattle.std.specs.Prelude.{◌≡◌, ◌++◌, IfOk, OnOk, string_bytes};
 ghost use Rattle.sk_words.specs.Request.{numbers_of};
 ghost use Rattle.sk_words.specs.Help.{given_as};
-ghost use Rattle.sk_advice.specs.Advice.{commands_text, further_of, further_of_fit, further_of_observation, further_of_record, further_of_words, hint_at as hint_at_place, hint_of as hint_of_subject, numbers_line as numbers_line_of, option_line as option_line_of, range_line as range_line_of, record_hint as record_hint_of};
+ghost use Rattle.sk_advice.specs.Advice.{barrier_line as barrier_line_of, commands_text, further_of, further_of_fit, further_of_observation, further_of_record, further_of_words, hint_at as hint_at_place, hint_of as hint_of_subject, numbers_line as numbers_line_of, option_line as option_line_of, pair_line as pair_line_of, range_line as range_line_of, record_hint as record_hint_of};
 
 use crate::naming::{push_counted, push_text};
 use crate::subject::{Place, Subject};
 use sk_checks::NoMemory;
-use sk_fit::FitFault;
+use sk_fit::{Barrier, FitFault};
 use sk_obs::ObsFault;
 use sk_status::{ObsStop, Status};
 use sk_words::{Command, OptionName, WordsFault};
@@ -88,9 +88,6 @@ fn record_further(fault: ObsFault) -> &'static str
     ensures { result.now ≡ further_of_record fault }
 {
     match fault {
-        ObsFault::Header => {
-            "Is it UTF-16 (save it as UTF-8), is it empty, or is there no header, or a line before it?"
-        }
         ObsFault::TimeForm(_) => {
             "no offset as +00:00, at most 12 decimals, and a day that its month has."
         }
@@ -107,23 +104,48 @@ fn observation_further(stop: ObsStop) -> &'static str
     }
 }
 
-fn fit_further(fault: FitFault) -> &'static str
-    ensures { result.now ≡ further_of_fit fault }
-{
-    match fault {
-        FitFault::NoRate(_) => {
-            "look at it and the record before: station residuals by the old kernel, then sort -t';' -gk5."
-        }
-        _ => "",
-    }
-}
-
 fn fixed_line(alloc: Global, text: &str) -> Result<Vec<u8>, NoMemory>
     ensures { IfOk result (λ line. line.items ≡ text.now) }
 {
     let mut line = Vec::new(alloc);
     push_text(&mut line, text)?;
     Ok(line)
+}
+
+fn pair_line(alloc: Global, low: u32, high: u32) -> Result<Vec<u8>, NoMemory>
+    ensures { IfOk result (λ line. line.items ≡ pair_line_of low high) }
+{
+    let mut line = Vec::new(alloc);
+    push_counted(
+        alloc,
+        &mut line,
+        "Each allowed rate is too small at record ",
+        low,
+    )?;
+    push_counted(alloc, &mut line, " or too large at record ", high)?;
+    push_text(&mut line, "; station residuals tells how far each is off.")?;
+    Ok(line)
+}
+
+fn barrier_line(alloc: Global, barrier: Barrier) -> Result<Vec<u8>, NoMemory>
+    ensures { IfOk result (λ line. line.items ≡ barrier_line_of barrier) }
+{
+    match barrier {
+        Barrier::OldLine => fixed_line(
+            alloc,
+            "The line of the kernel's last triple misses it too; station residuals tells by how much.",
+        ),
+        Barrier::Pair { low, high } => pair_line(alloc, low, high),
+    }
+}
+
+fn fit_further(alloc: Global, fault: FitFault) -> Result<Vec<u8>, NoMemory>
+    ensures { IfOk result (λ line. line.items ≡ further_of_fit fault) }
+{
+    match fault {
+        FitFault::NoRate(_, barrier) => barrier_line(alloc, barrier),
+        _ => Ok(Vec::new(alloc)),
+    }
 }
 
 /// More of what there is to do where a run ends so; an empty line where there is no more.
@@ -133,7 +155,7 @@ pub fn further_line(alloc: Global, status: Status) -> Result<Vec<u8>, NoMemory>
     match status {
         Status::WordsRefused(fault) => words_further(alloc, fault),
         Status::ObservationRefused(stop) => fixed_line(alloc, observation_further(stop)),
-        Status::NotPublished(fault) => fixed_line(alloc, fit_further(fault)),
+        Status::NotPublished(fault) => fit_further(alloc, fault),
         _ => Ok(Vec::new(alloc)),
     }
 }

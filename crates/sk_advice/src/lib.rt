@@ -5,6 +5,7 @@ mod advice;
 mod causes;
 mod cures;
 mod further;
+mod headers;
 mod naming;
 mod sentences;
 mod subject;

@@ -135,7 +135,7 @@ fn place_in_records(fault: ObsFault) -> Place
         ObsFault::BadDelay(number) => Place::Record(number),
         ObsFault::TimeRange(number) => Place::Record(number),
         ObsFault::OutOfOrder(number) => Place::Record(number),
-        ObsFault::Header => Place::Whole,
+        ObsFault::Header(_) => Place::Whole,
         ObsFault::TooMany => Place::Whole,
         ObsFault::NoMemory => Place::Whole,
     }
@@ -181,7 +181,7 @@ fn fit_subject(fault: FitFault) -> Subject
         FitFault::BadHold => Subject::Given(OptionName::Hold),
         FitFault::OldFalls(fall) => Subject::File(OptionName::Kernel, Place::Triple(fall.join)),
         FitFault::BandEmpty => Subject::Nothing,
-        FitFault::NoRate(number) => Subject::File(OptionName::Obs, Place::Record(number)),
+        FitFault::NoRate(number, _) => Subject::File(OptionName::Obs, Place::Record(number)),
         FitFault::TimeFalls(number) => Subject::File(OptionName::Obs, Place::Record(number)),
         FitFault::TooMany => Subject::File(OptionName::Kernel, Place::Whole),
         FitFault::NoMemory => Subject::Nothing,

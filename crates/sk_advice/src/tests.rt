@@ -1,6 +1,7 @@
 use super::*;
 use sk_edge::MemorySink;
-use sk_obs::{ClockWord, ObsFault};
+use sk_fit::{Barrier, FitFault};
+use sk_obs::{ClockWord, HeaderCause, ObsFault};
 use sk_status::{DocumentKind, FileKind, ObsStop, Status};
 use sk_words::{OptionName, WordsFault};
 use std::alloc::{AllocError, Global};
@@ -54,7 +55,7 @@ fn bytes_that_are_not_printable_are_shown_as_digits(rt: HostRuntime) -> Result<(
 #[test]
 fn each_part_is_told_in_its_order(rt: HostRuntime) -> Result<(), Fail> {
     let alloc = rt.alloc();
-    let table: [(Status, &str); 3] = [
+    let table: [(Status, &str); 6] = [
         (Status::Done, ""),
         (
             Status::WordsRefused(WordsFault::OutOfRange(OptionName::TolNs)),
@@ -63,6 +64,18 @@ fn each_part_is_told_in_its_order(rt: HostRuntime) -> Result<(), Fail> {
         (
             Status::ObservationRefused(ObsStop::Record(ObsFault::ClockRefused(12, ClockWord::Hex))),
             "refused;5;Record;12;ClockRefused;Hex\n   (--obs), record 12:\n  what follows cuc: in the clock word is not hex digits of whole bytes.\n  Write two hex digits a byte, without blanks and without 0x.\n  Record 1 is the header: grep -n . FILE | sed -n 12p prints the record and its line number.\n",
+        ),
+        (
+            Status::ObservationRefused(ObsStop::Record(ObsFault::Header(HeaderCause::ZeroByte))),
+            "refused;5;Header\n   (--obs):\n  the first field holds a zero byte, as text in UTF-16 does.\n  Save the file as UTF-8.\n",
+        ),
+        (
+            Status::NotPublished(FitFault::NoRate(9, Barrier::Pair { low: 9, high: 7 })),
+            "refused;6;NoRate;9\n   (--obs), record 9:\n  no allowed rate meets this record from where the line before it was left.\n  Is its time or its delay wrong, or another record's? If all are right, widen --tol-ns or --band-ppm.\n  Each allowed rate is too small at record 9 or too large at record 7; station residuals tells how far each is off.\n  Record 1 is the header: grep -n . FILE | sed -n 9p prints the record and its line number.\n",
+        ),
+        (
+            Status::NotPublished(FitFault::NoRate(9, Barrier::OldLine)),
+            "refused;6;NoRate;9\n   (--obs), record 9:\n  no allowed rate meets this record from where the line before it was left.\n  Is its time or its delay wrong, or another record's? If all are right, widen --tol-ns or --band-ppm.\n  The line of the kernel's last triple misses it too; station residuals tells by how much.\n  Record 1 is the header: grep -n . FILE | sed -n 9p prints the record and its line number.\n",
         ),
     ];
     for (status, text) in table {

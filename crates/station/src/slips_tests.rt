@@ -125,39 +125,71 @@ const WORD_SLIPS: [(&str, &str, &str); 24] = [
 ];
 
 /// Observation files that a newcomer may write, the line that refuses them, and the cure that is told behind it.
-const FILE_SLIPS: [(&str, &str, &str); 22] = [
-    ("clock,id,time,delay\n", "refused;5;Header\n", "this order"),
+const FILE_SLIPS: [(&str, &str, &str); 26] = [
+    (
+        "clock,id,time,delay\n",
+        "refused;5;Header\n",
+        "stand in another order",
+    ),
+    (
+        "clock,id,time,delay\n",
+        "refused;5;Header\n",
+        "in this order: id,clock,time,delay.",
+    ),
     (
         "ID,Clock,Time,Delay\n",
         "refused;5;Header\n",
-        "small letters",
+        "Write it in small letters",
     ),
-    ("id, clock, time, delay\n", "refused;5;Header\n", "no blank"),
+    (
+        "id, clock, time, delay\n",
+        "refused;5;Header\n",
+        "white space beside the header",
+    ),
     (
         "id,clock,time,delay,note\n",
         "refused;5;Header\n",
-        "four names",
+        "The header has four names alone",
+    ),
+    (
+        "id,clock,time\n",
+        "refused;5;Header\n",
+        "Is a column or a comma missing?",
     ),
     (
         "id;clock;time;delay\n",
         "refused;5;Header\n",
-        "commas alone between them",
+        "Write commas in place of semicolons or tabs",
     ),
     (
         "i\0d\0,\0c\0l\0o\0c\0k\0",
         "refused;5;Header\n",
-        "save it as UTF-8",
+        "Save the file as UTF-8.",
     ),
     (
         "# made by hand\nid,clock,time,delay\n",
         "refused;5;Header\n",
-        "a line before it",
+        "Remove that line: the header comes first.",
     ),
-    ("", "refused;5;Header\n", "is it empty"),
+    (
+        "# made\n# by hand\nid,clock,time,delay\n",
+        "refused;5;Header\n",
+        "Remove each line that begins with #.",
+    ),
+    (
+        "",
+        "refused;5;Header\n",
+        "the file holds no record",
+    ),
     (
         "a,tick:256000,tdt:1000,0\n",
         "refused;5;Header\n",
-        "is there no header",
+        "Write a first line before it: id,clock,time,delay.",
+    ),
+    (
+        "name,reading,when,late\n",
+        "refused;5;Header\n",
+        "Write the header just so",
     ),
     (
         "id,clock,time,delay\na, tick:256000, tdt:1000, 0\n",
@@ -226,6 +258,30 @@ const FILE_SLIPS: [(&str, &str, &str); 22] = [
     ),
 ];
 
+/// Observations that no allowed rate meets, the line that refuses them, and what is told behind it.
+const RATE_SLIPS: [(&str, &str, &str); 4] = [
+    (
+        "id,clock,time,delay\na,tick:256000,tdt:1100,0\n",
+        "refused;6;NoRate;2\n",
+        "The line of the kernel's last triple misses it too",
+    ),
+    (
+        "id,clock,time,delay\na,tick:256000,tdt:1000.002,0\nx,tick:384000,tdt:1400,0\n",
+        "refused;6;NoRate;3\n",
+        "too small at record 2 or too large at record 3",
+    ),
+    (
+        "id,clock,time,delay\na,tick:256000,tdt:1000.002,0\nx,tick:384000,tdt:1600,0\n",
+        "refused;6;NoRate;3\n",
+        "too small at record 3 or too large at record 2",
+    ),
+    (
+        "id,clock,time,delay\na,tick:256000,tdt:1000.002,0\nb,tick:512000,tdt:2000.006,0\nx,tick:768000,tdt:3100,0\n",
+        "refused;6;NoRate;4\n",
+        "too small at record 4 or too large at record 2",
+    ),
+];
+
 /// The words between the bars.
 fn split_words(alloc: Global, words: &str) -> Result<Vec<String>, AllocError> {
     let mut all = Vec::new(alloc);
@@ -291,6 +347,22 @@ fn each_slip_of_the_observations_leads_to_its_cure(rt: HostRuntime) -> Result<()
         );
         assert!(rt; tells(notes.written(), cure), "{observations} {cure}");
         assert!(rt; tells(notes.written(), "o (--obs)"), "{observations}");
+        assert!(rt; are_set_in(notes.written()), "{observations}");
+    }
+    Ok(())
+}
+
+#[test]
+fn a_record_without_a_rate_leads_to_the_pair(rt: HostRuntime) -> Result<(), Fail> {
+    let alloc = rt.alloc();
+    for (observations, line, told) in RATE_SLIPS {
+        let notes = noted(alloc, "publish|--kernel=k|--obs=o|--sc=99", observations)?;
+        assert_eq!(rt;
+            first_line(notes.written()),
+            line.as_bytes(),
+            "{observations}"
+        );
+        assert!(rt; tells(notes.written(), told), "{observations} {told}");
         assert!(rt; are_set_in(notes.written()), "{observations}");
     }
     Ok(())
