@@ -22,6 +22,7 @@ COMMANDS = {  # each command, and what it writes by the files of texts.py where 
     "invert": ("invert --kernel=k --sc=99 --time=tdt:5", b"1/0000000005.000;1280;5.000000000000\n"),
     "sample": ("sample --seed=0 --count=2", b"sample;0;2;0;71066000;0\n"),
     "excerpt": ("excerpt --kernel=k --over=k --sc=99 --from=0 --to=600", None),
+    "audit": (texts.AUDIT, b"yes\n"),
     "least": ("least --leap=l --kernel=k --obs=o --sc=99", None),
     "help": ("help", None),
     "version": ("--version", None),
@@ -125,6 +126,8 @@ def no_files(report):
             given = [f"--{other}={name if other == option else right}" for other, right in files.items()]
             end = report.run(["publish", *given, "--sc=99"])
             report.is_refused(f"{option}: {what}", end, f"refused;7;{kind}")
+        end = report.run(["audit", "--leap=l", "--kernel=k", "--obs=o", "--sc=99", f"--new={name}"])
+        report.is_refused(f"new: {what}", end, "refused;7;New")
         end = report.run(["publish", f"--leap={name}", f"--kernel={name}", f"--obs={name}", "--sc=99"])
         report.is_refused(f"all three: {what}", end, "refused;7;Leap")
 
@@ -173,8 +176,8 @@ def pieces(report):
         for name, data in texts.FILES.items():
             report.write(**texts.FILES)
             fed(report.folder, name, data.encode() if isinstance(data, str) else data, piece)
-            end = report.run(texts.PUBLISH)
-            report.is_done(f"{name} in pieces of {piece}", end, texts.PUBLISHED)
+            words, wanted = (texts.AUDIT, b"yes\n") if name == "n" else (texts.PUBLISH, texts.PUBLISHED)
+            report.is_done(f"{name} in pieces of {piece}", report.run(words), wanted)
             (report.folder / name).unlink()
     fed(report.folder, "k", b"", 1)
     report.is_done("a kernel from which nothing comes", report.run("normal --kernel=k"), b"")
@@ -182,11 +185,12 @@ def pieces(report):
     report.is_refused("a kernel that does not end in time", report.run("normal --kernel=k"), "refused;4;TooLong")
     feeder.join()
     (report.folder / "k").unlink()
-    for name, kind in (("l", 3), ("k", 4), ("o", 5)):
+    for name, kind in (("l", 3), ("k", 4), ("o", 5), ("n", 12)):
         report.write(**texts.FILES)
         (report.folder / name).unlink()
         os.symlink("/dev/zero", report.folder / name)
-        report.is_refused(f"zeros without end as {name}", report.run(texts.PUBLISH), f"refused;{kind};TooLong")
+        words = texts.AUDIT if name == "n" else texts.PUBLISH
+        report.is_refused(f"zeros without end as {name}", report.run(words), f"refused;{kind};TooLong")
         (report.folder / name).unlink()
     report.write(**(texts.FILES | dict(k="")))
     report.is_done("an empty kernel", report.run("normal --kernel=k"), b"")

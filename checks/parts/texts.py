@@ -101,4 +101,5 @@ d3;1/0000259200.000;259200.005000000000;259200.005000003200;-3200;3;new;last
 LEAP = (TOP / "examples" / "leapseconds.tls").read_bytes()
 
 PUBLISH = "publish --leap=l --kernel=k --obs=o --sc=99"
-FILES = dict(l=LEAP, k=OLD, o=PASS)
+AUDIT = "audit --leap=l --kernel=k --obs=o --sc=99 --new=n"
+FILES = dict(l=LEAP, k=OLD, o=PASS, n=PUBLISHED)

@@ -251,11 +251,11 @@ cause_of_fit fit.NoMemory = codes "memory ran out."
 
 -- of an audit
 abbrev pub cause_of_audit : AuditFault → List ℕ
-cause_of_audit audit.Settings = codes "the options admit no publication."
-cause_of_audit audit.Standing = codes "the new kernel is not the old one with one block more."
+cause_of_audit audit.Settings = codes "the hold, the slip or the band allow no publication, or a record is before the first triple."
+cause_of_audit audit.Standing = codes "the new kernel is not the old one with exactly one block more."
 cause_of_audit audit.Items = codes "the new block has other items than a publication has."
 cause_of_audit audit.Chain = codes "the new triples are not those of a publication."
-cause_of_audit (audit.Table line) = codes "this line of the residual table is another one."
+cause_of_audit (audit.Table line) = codes "this line of the table is not the publication's, or it is missing there or here."
 
 -- of an excerpt
 abbrev pub cause_of_excerpt : ExcerptFault → List ℕ

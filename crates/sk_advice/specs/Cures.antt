@@ -90,6 +90,11 @@ abbrev pub cure_of_text : TextStop → List ℕ
 cure_of_text text_stop.TooLong = codes "Is it a kernel? docs/DAILY.md tells how to trim the comments of one."
 cure_of_text (text_stop.Grammar fault) = cure_of_grammar fault
 
+-- of the text of a kernel that is to be judged
+abbrev pub cure_of_new : TextStop → List ℕ
+cure_of_new text_stop.TooLong = codes "Trim the comments of the old kernel, as docs/DAILY.md tells, and publish over it again."
+cure_of_new (text_stop.Grammar fault) = cure_of_grammar fault
+
 -- of a missing variable of the leap seconds
 abbrev pub cure_of_leap_name : LeapName → List ℕ
 cure_of_leap_name leap_name.DeltaTA =
@@ -267,9 +272,9 @@ cure_of_fit fit.NoMemory = codes "Free memory and run again."
 
 -- of an audit
 abbrev pub cure_of_audit : AuditFault → List ℕ
-cure_of_audit audit.Settings = codes "Give the options with which the new kernel was published."
-cure_of_audit audit.Standing = codes "Was it made from this kernel, and changed by hand?"
-cure_of_audit audit.Items = codes "Was it changed by hand?"
+cure_of_audit audit.Settings = codes "Give the options and the observations with which the new kernel was published."
+cure_of_audit audit.Standing = codes "Give as --kernel the one that it was published over. Was one of them changed by hand?"
+cure_of_audit audit.Items = codes "A publication has a kernel ID at most, and then numbers of triples. Was it changed by hand?"
 cure_of_audit audit.Chain = codes "Give the options and the observations with which it was published."
 cure_of_audit (audit.Table line) = codes "Give the options and the observations with which it was published."
 
@@ -308,6 +313,6 @@ cure_of status.WriteFault = codes "What was written is only its beginning: do no
 cure_of status.NoMemory = codes "Free memory and run again."
 cure_of (status.TimeRefused stop) = cure_of_time stop
 cure_of (status.AuditNo fault) = cure_of_audit fault
-cure_of (status.NewRefused stop) = cure_of_text stop
+cure_of (status.NewRefused stop) = cure_of_new stop
 cure_of (status.ExcerptRefused fault) = cure_of_excerpt fault
 cure_of (status.OverRefused place stop) = cure_of_text stop

@@ -346,11 +346,13 @@ fn audit_cause(fault: AuditFault) -> &'static str
     ensures { result.now ≡ cause_of_audit fault }
 {
     match fault {
-        AuditFault::Settings => "the options admit no publication.",
-        AuditFault::Standing => "the new kernel is not the old one with one block more.",
+        AuditFault::Settings =>
+            "the hold, the slip or the band allow no publication, or a record is before the first triple.",
+        AuditFault::Standing => "the new kernel is not the old one with exactly one block more.",
         AuditFault::Items => "the new block has other items than a publication has.",
         AuditFault::Chain => "the new triples are not those of a publication.",
-        AuditFault::Table(_) => "this line of the residual table is another one.",
+        AuditFault::Table(_) =>
+            "this line of the table is not the publication's, or it is missing there or here.",
     }
 }
 

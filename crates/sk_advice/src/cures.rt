@@ -1,7 +1,7 @@
 //! The nearest cure of what is wrong.
 
 ghost use Rattle.std.specs.Prelude.{◌≡◌};
-ghost use Rattle.sk_advice.specs.Cures.{cure_of_reason, cure_of_grammar, cure_of_pool, cure_of_text, cure_of_leap_name, cure_of_leap_fault, cure_of_leap, cure_of_clock_name, cure_of_clock_kernel, cure_of_triples, cure_of_kernel, cure_of_count, cure_of_cuc, cure_of_cds, cure_of_clock_word, cure_of_code, cure_of_utc, cure_of_record, cure_of_range, cure_of_observation, cure_of_fit, cure_of_audit, cure_of_excerpt, cure_of_time, cure_of_words, cure_of};
+ghost use Rattle.sk_advice.specs.Cures.{cure_of_reason, cure_of_grammar, cure_of_pool, cure_of_text, cure_of_leap_name, cure_of_leap_fault, cure_of_leap, cure_of_clock_name, cure_of_clock_kernel, cure_of_triples, cure_of_kernel, cure_of_count, cure_of_cuc, cure_of_cds, cure_of_clock_word, cure_of_code, cure_of_utc, cure_of_record, cure_of_range, cure_of_observation, cure_of_fit, cure_of_new, cure_of_audit, cure_of_excerpt, cure_of_time, cure_of_words, cure_of};
 
 use crate::headers::header_cure;
 use sk_audit::AuditFault;
@@ -365,13 +365,28 @@ fn fit_cure(fault: FitFault) -> &'static str
     }
 }
 
+// Comments of the new kernel alone cannot be taken out: it would not be the old one and a block.
+fn new_cure(stop: TextStop) -> &'static str
+    ensures { result.now ≡ cure_of_new stop }
+{
+    match stop {
+        TextStop::TooLong => {
+            "Trim the comments of the old kernel, as docs/DAILY.md tells, and publish over it again."
+        }
+        TextStop::Grammar(fault) => grammar_cure(fault),
+    }
+}
+
 fn audit_cure(fault: AuditFault) -> &'static str
     ensures { result.now ≡ cure_of_audit fault }
 {
     match fault {
-        AuditFault::Settings => "Give the options with which the new kernel was published.",
-        AuditFault::Standing => "Was it made from this kernel, and changed by hand?",
-        AuditFault::Items => "Was it changed by hand?",
+        AuditFault::Settings =>
+            "Give the options and the observations with which the new kernel was published.",
+        AuditFault::Standing =>
+            "Give as --kernel the one that it was published over. Was one of them changed by hand?",
+        AuditFault::Items =>
+            "A publication has a kernel ID at most, and then numbers of triples. Was it changed by hand?",
         AuditFault::Chain => "Give the options and the observations with which it was published.",
         AuditFault::Table(_) => {
             "Give the options and the observations with which it was published."
@@ -438,7 +453,7 @@ pub fn status_cure(status: Status) -> &'static str
         Status::NoMemory => "Free memory and run again.",
         Status::TimeRefused(stop) => time_cure(stop),
         Status::AuditNo(fault) => audit_cure(fault),
-        Status::NewRefused(stop) => text_cure(stop),
+        Status::NewRefused(stop) => new_cure(stop),
         Status::ExcerptRefused(fault) => excerpt_cure(fault),
         Status::OverRefused(_, stop) => text_cure(stop),
     }

@@ -1,4 +1,5 @@
 use super::*;
+use sk_audit::AuditFault;
 use sk_edge::MemorySink;
 use sk_fit::{Barrier, FitFault};
 use sk_obs::{ClockWord, HeaderCause, ObsFault};
@@ -55,11 +56,15 @@ fn bytes_that_are_not_printable_are_shown_as_digits(rt: HostRuntime) -> Result<(
 #[test]
 fn each_part_is_told_in_its_order(rt: HostRuntime) -> Result<(), Fail> {
     let alloc = rt.alloc();
-    let table: [(Status, &str); 6] = [
+    let table: [(Status, &str); 7] = [
         (Status::Done, ""),
         (
             Status::WordsRefused(WordsFault::OutOfRange(OptionName::TolNs)),
             "refused;2;OutOfRange;tol-ns\n  --tol-ns:\n  this is not in the range of the option:\n  a whole number from 1 to 60000000000, in digits alone, as 1000000: no point, exponent, _ or blank.\n",
+        ),
+        (
+            Status::AuditNo(AuditFault::Table(3)),
+            "refused;11;Table;3\n   (--new), table line 3:\n  this line of the table is not the publication's, or it is missing there or here.\n  Give the options and the observations with which it was published.\n",
         ),
         (
             Status::ObservationRefused(ObsStop::Record(ObsFault::ClockRefused(12, ClockWord::Hex))),

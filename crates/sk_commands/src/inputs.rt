@@ -1,7 +1,7 @@
 //! What a command reads before it judges.
 
 use crate::kernel::Kernel;
-use sk_grammar::List;
+use sk_grammar::{Doc, List};
 use sk_leap::LeapTable;
 use sk_obs::Observation;
 use std::marker::Model;
@@ -41,4 +41,19 @@ impl Model for Inputs {
     ghost view = { λ i. record { kernel = i.kernel; observations = i.observations } };
 
     ghost invariant = { λ i. AreRows (total i.kernel.clock) i.observations };
+}
+
+/// The clock kernel and the observations, and the document of the kernel that is to be judged by them.
+#[derive(Drop)]
+pub struct AuditInputs {
+    pub inputs: Inputs,
+    pub candidate: Doc,
+}
+
+impl Model for AuditInputs {
+    ghost use Rattle.sk_outcome.specs.Files.{AuditRead};
+
+    ghost Value = { AuditRead };
+
+    ghost view = { λ a. record { inputs = a.inputs; candidate = a.candidate } };
 }

@@ -1,6 +1,7 @@
 //! What each command writes, by its request and by what was read: functions that read nothing.
 #![tactic(auto)]
 
+pub mod audit;
 pub mod convert;
 mod differences;
 pub mod excerpt;
@@ -16,6 +17,6 @@ pub mod sample;
 mod ticks;
 mod time_word;
 
-pub use inputs::{Inputs, Opened};
+pub use inputs::{AuditInputs, Inputs, Opened};
 pub use kernel::Kernel;
 pub use meaning::{kernel_meaning, leap_meaning, observed};

@@ -15,7 +15,8 @@ use Rattle.sk_publishing.specs.Meets.{Meets, scaled}
 use Rattle.sk_line.specs.Line.{line_over}
 use Rattle.sk_publishing.specs.Rates.{on_grid}
 use Rattle.sk_publishing.specs.Chain.{SegmentView, first_of, covered_by, EachFollowed, EachJoined, ForNext, IsInPartition, IsGridRate, HasRate, anchor_due, IsNotLater, IsChain, new_triples}
-use Rattle.sk_publishing.specs.Kept.{is_new}
+use Rattle.sk_publishing.specs.Input.{HasLast, AreTooMany}
+use Rattle.sk_publishing.specs.Kept.{is_new, IsPublication}
 use Rattle.sk_triples.specs.Kernel.{TriplesView, AreOf, AreKept, AreTriples, IsTriple, Rise}
 use Rattle.sk_line.proofs.Lists.{all_front, all_back, all_append}
 use Rattle.sk_publishing.proofs.Chains.{starts}
@@ -207,30 +208,36 @@ same_new : (all : List Sight) (dropped : List ℕ) (segments : List Segment)
 same_new all dropped [] = refl
 same_new all dropped (s ∷ segments) = new_ones all dropped segments ∙ sym (singles (map (segment_view all dropped) segments))
 
--- with its triples the old kernel has triples that a kernel may have
-pub gives_triples : (triples : TriplesView) (clock : ClockView) (rows : List RowView) (settings : Settings) (chain : Chain) → AreSettings settings → IsSmallClock clock
-    → AreKept triples → AreOf clock triples → AreRows (total clock) rows → Gives (input triples clock rows settings) chain
-    → AreTriples triples.total (triples.triples ++ new_triples_of chain)
-gives_triples triples clock rows settings chain given clocked kept of_clock are g =
-    let t : Terms = terms_of settings clock g.old in
-    let segments : List SegmentView = segments_of (sights rows) chain in
-    let same : new_triples_of chain ≡ new_triples segments = same_new (sights rows) chain.dropped chain.segments in
-    let ends : triples.triples ≡ g.begins.last.0 ++ g.old ∷ [] = g.begins.last.1 in
-    let is_old : IsTriple triples.total g.old = (all_back (IsTriple triples.total) g.begins.last.0 (g.old ∷ []) (subst (AllByRecursion (IsTriple triples.total)) ends kept.triples.each)).0 in
+-- with the triples of a publication the old kernel has triples that a kernel may have
+pub publication_triples : (triples : TriplesView) (clock : ClockView) (rows : List RowView) (settings : Settings) (old : TripleView) (dropped : List Sight) (segments : List SegmentView)
+    → AreSettings settings → IsSmallClock clock → AreKept triples → AreOf clock triples → AreRows (total clock) rows → HasLast (input triples clock rows settings) old
+    → IsPublication (terms_of settings clock old) (sights rows) dropped segments → ¬ AreTooMany (input triples clock rows settings) segments
+    → AreTriples triples.total (triples.triples ++ new_triples segments)
+publication_triples triples clock rows settings old dropped segments given clocked kept of_clock are last p fits =
+    let t : Terms = terms_of settings clock old in
+    let is_old : IsTriple triples.total old = (all_back (IsTriple triples.total) last.0 (old ∷ []) (subst (AllByRecursion (IsTriple triples.total)) last.1 kept.triples.each)).0 in
     let seen : AllByRecursion (λ o. is_new t o ≡ true → IsSeen triples.total o) (sights rows) = all_sights (λ o. is_new t o ≡ true → IsSeen triples.total o) rows (λ k row here new. one k row (in_range (total clock) rows k row are here)) in
-    let made = chain_triples t triples.total clocked.some refl given.tolerance_to given.band_to is_old g.publication.kept None segments
-    (kept_all t (IsSeen triples.total) (sights rows) g.publication.kept g.dropped g.publication.sorts seen) g.publication.is_chain in
-    subst (λ (z : List TripleView). AreTriples triples.total (triples.triples ++ z)) (sym same) (record {
+    let made = chain_triples t triples.total clocked.some refl given.tolerance_to given.band_to is_old p.kept None segments
+    (kept_all t (IsSeen triples.total) (sights rows) p.kept dropped p.sorts seen) p.is_chain in
+    record {
       some = (let l = length-append triples.triples (new_triples segments) in let k = kept.triples.some in omega arith);
       few = elim (cases_lt 50000 (length triples.triples + length (new_triples segments))) [
-        | inl h ↦ absurd (g.few h)
+        | inl h ↦ absurd (fits h)
         | inr h ↦ (let l = length-append triples.triples (new_triples segments) in omega arith)
       ];
       each = all_append (IsTriple triples.total) triples.triples (new_triples segments) kept.triples.each made.0;
-      rise = subst (λ (z : List TripleView). Rise (z ++ new_triples segments)) (sym ends)
-          (rise_join g.begins.last.0 g.old (new_triples segments) (subst Rise ends kept.triples.rise) made.1);
-    })
+      rise = subst (λ (z : List TripleView). Rise (z ++ new_triples segments)) (sym last.1)
+          (rise_join last.0 old (new_triples segments) (subst Rise last.1 kept.triples.rise) made.1);
+    }
   where
     one : (k : ℕ) (row : RowView) → (row.tick ≤ total clock) × (neg_ℤ (pos (9 * 10 ^ 21)) ≤ℤ row.time) × (row.time ≤ℤ pos (9 * 10 ^ 21))
         → IsSeen triples.total (record { place = k; tick = row.tick; time = row.time })
     one k row h = record { tick = subst (λ (m : ℕ). row.tick ≤ m) (sym of_clock.1) h.0; time = h.2 }
+
+-- and so with those of a chain
+pub gives_triples : (triples : TriplesView) (clock : ClockView) (rows : List RowView) (settings : Settings) (chain : Chain) → AreSettings settings → IsSmallClock clock
+    → AreKept triples → AreOf clock triples → AreRows (total clock) rows → Gives (input triples clock rows settings) chain
+    → AreTriples triples.total (triples.triples ++ new_triples_of chain)
+gives_triples triples clock rows settings chain given clocked kept of_clock are g =
+    subst (λ (z : List TripleView). AreTriples triples.total (triples.triples ++ z)) (sym (same_new (sights rows) chain.dropped chain.segments))
+    (publication_triples triples clock rows settings g.old g.dropped (segments_of (sights rows) chain) given clocked kept of_clock are g.begins.last g.publication g.few)

@@ -1,6 +1,6 @@
 -- Where nothing fails and the files are known, a run comes to one end.
-use Rattle.std.proofs.Common.{rules, ◌≡◌, ℕ, zero, suc, ◌*◌, ◌<◌, ◌≤◌, List, [], ◌∷◌, ◌++◌, length, Option, Some, None, Result, Ok, Err, refl, sym, ap, subst, ◌∙◌, ◌⊎◌, inl, inr, arith, ◌+◌, ◌-◌}
-use Rattle.std.specs.Prelude.{All, IsSome, IfSome, codes, unwrap_or, is_none, false, slice_index_or}
+use Rattle.std.proofs.Common.{◌≡◌, ℕ, suc, ◌*◌, ◌<◌, ◌≤◌, List, [], ◌∷◌, ◌++◌, length, Option, Some, None, Result, Ok, Err, refl, sym, ap, subst, ◌∙◌, ◌⊎◌, inl, inr, arith, ◌+◌, ◌-◌}
+use Rattle.std.specs.Prelude.{All, IsSome, IfSome, codes, is_none, false}
 use Rattle.std.specs.Option.{option_to_list}
 use Rattle.std.proofs.lemmas.Option.{same_Some}
 use Rattle.sk_checks.specs.Checks.{Judges}
@@ -27,19 +27,19 @@ use Rattle.sk_fit.proofs.OneAnswer.{one_refusal, one_gives, gives_unrefused}
 use Rattle.sk_report.specs.Report.{table_checks}
 use Rattle.sk_sample.specs.Sample.{kernel_text, spacecraft, observations_text}
 use Rattle.sk_words.specs.declared.tables.Command.{Command}
-use Rattle.sk_words.specs.declared.tables.Command.TheVariants.{Publish, Residuals, Normal, Convert, Sample, Invert, Excerpt, Least}
+use Rattle.sk_words.specs.declared.tables.Command.TheVariants.{Publish, Residuals, Normal, Convert, Sample, Invert, Audit, Excerpt, Least}
 use Rattle.sk_least.proofs.OneCover.{one_answer}
 use Rattle.sk_words.specs.declared.tables.OptionName.TheVariants as opt
-use Rattle.sk_words.specs.Request.{Options, text_or, number_or, files_of, over_names}
+use Rattle.sk_words.specs.Request.{Options, text_or, number_or, files_of}
 use Rattle.sk_excerpt.specs.Excerpt.{joined, excerpt_checks, excerpt_doc, IsExcerpt}
 use Rattle.sk_words.specs.Asked.{Request, WordsAsk}
 use Rattle.sk_words.proofs.Needed.{AreNamed, are_named}
 use Rattle.sk_status.specs.declared.status.Status.{Status}
-use Rattle.sk_status.specs.declared.status.Status.TheVariants.{Done, WordsRefused, LeapRefused, KernelRefused, ObservationRefused, NotPublished, WriteFault, NoMemory, ExcerptRefused}
+use Rattle.sk_status.specs.declared.status.Status.TheVariants.{Done, WordsRefused, LeapRefused, KernelRefused, ObservationRefused, NotPublished, WriteFault, NoMemory, AuditNo, ExcerptRefused}
 use Rattle.sk_status.specs.declared.status.FileKind.{FileKind}
 use Rattle.sk_status.specs.declared.status.FileKind.TheVariants.{Document, Observations}
 use Rattle.sk_status.specs.declared.status.DocumentKind.{DocumentKind}
-use Rattle.sk_status.specs.declared.status.DocumentKind.TheVariants.{Leap, Kernel, Over}
+use Rattle.sk_status.specs.declared.status.DocumentKind.TheVariants.{Leap, Kernel, New, Over}
 use Rattle.sk_status.specs.declared.status.LeapStop.TheVariants as leap_stop
 use Rattle.sk_status.specs.declared.status.KernelStop.TheVariants as kernel_stop
 use Rattle.sk_status.specs.declared.status.ObsStop.TheVariants as obs_stop
@@ -49,23 +49,25 @@ use Rattle.sk_words.proofs.Apart.{no_topic}
 use Rattle.sk_outcome.specs.Stage.{Stage, ◌>>=◌, gives, some, IsDetermined}
 use Rattle.sk_outcome.specs.Files as files
 use Rattle.sk_outcome.specs.Seen.{Source}
-use Rattle.sk_outcome.specs.Files.{KernelRead, reads, judged, document, refused_by, too_long, file_limit, sc_of, leap_named, leap_file, leap_meaning, leap_pool, leap_table, kernel_document, kernel_meaning, kernel_file, kernel_pool, kernel_clock, kernel_triples, observation_file, observed, OpenedRead, InputsRead, opened_read, inputs_read}
+use Rattle.sk_outcome.specs.Files.{KernelRead, reads, judged, document, refused_by, too_long, file_limit, sc_of, leap_named, leap_file, leap_meaning, leap_pool, leap_table, kernel_document, kernel_meaning, kernel_file, kernel_pool, kernel_clock, kernel_triples, observation_file, observed, OpenedRead, InputsRead, AuditRead, opened_read, inputs_read, candidate_document, audit_read}
 use Rattle.sk_outcome.specs.Joined.{over_documents, joined_behind, named_over, joined_kernel}
 use Rattle.sk_outcome.specs.Publishing.{after_chain, after_rows}
-use Rattle.sk_outcome.specs.Output.{settings_of, dated, plain_table, new_kernel, tick_fields, time_by, line_of, least_text}
+use Rattle.sk_outcome.specs.Output.{settings_of, dated, plain_table, tick_fields, time_by, line_of, yes_line, least_text}
 use Rattle.sk_outcome.specs.Sample.{made_kernel, made_observations, made_inputs, sample_line, seed_of, count_of}
 use Rattle.sk_outcome.specs.Time.{IsUtcWord}
-use Rattle.sk_outcome.specs.Outcome.{requested, commanded, told_or, outcome, outcome_of, publish, publish_of, chain_of, residuals, residuals_of, normal, normal_of, convert, convert_of, converted, sample, sample_of, sampled, invert, invert_of, said, ticked, told, covered, clock_tick, TickOf, tabled, all_covered, status_of_report, least, least_of, ShortestCover, excerpt, excerpt_of, cut_out}
+use Rattle.sk_outcome.specs.Outcome.{requested, commanded, told_or, outcome, outcome_of, publish, publish_of, chain_of, residuals, residuals_of, normal, normal_of, convert, convert_of, converted, sample, sample_of, sampled, invert, invert_of, said, ticked, told, covered, clock_tick, TickOf, tabled, all_covered, status_of_report, audit, audit_of, audited, accepted, VerdictOf, least, least_of, ShortestCover, excerpt, excerpt_of, cut_out}
 use Rattle.sk_outcome.specs.Ending.{Ends, HasEnded}
 use Rattle.sk_headline.proofs.Determined.{then_determined, then_determined_of, judged_determined, gives_determined, judges_one}
 use Rattle.sk_headline.proofs.OneAnswer.{doc_one, pool_one, leap_one, clock_one, triples_one, range_single, table_single, words_one}
 use Rattle.sk_headline.proofs.OneRecord.{observations_one, word_single}
 use Rattle.sk_headline.proofs.NewTriples.{one_addition}
+use Rattle.sk_headline.proofs.Known.{front_known, others_known, one_known, named_known}
 use Rattle.sk_headline.proofs.Inverted.{said_determined, ticked_determined}
 use Rattle.sk_headline.proofs.LeapTables.{named_table}
 use Rattle.sk_headline.proofs.OneUtc.{one_utc_word}
+use Rattle.sk_headline.proofs.OneVerdict.{verdict_one}
 use Rattle.sk_outcome.proofs.Moves.{Moves, follows_moved}
-use Rattle.sk_outcome.proofs.Follows.{kernel_after, rows_after, outcome_follows}
+use Rattle.sk_outcome.proofs.Follows.{kernel_after, rows_after, candidate_after, outcome_follows}
 
 -- ---- files
 
@@ -325,6 +327,21 @@ least_determined source options calm known =
     (λ inputs. shown_determined (ShortestCover options inputs) (least_text inputs.observations)
     (one_answer inputs.kernel.clock (number_or 1000000 opt.TolNs options * 1000) inputs.observations))
 
+audit_read_determined : (source : Source) (options : Options) → IsCalm source → AreKnown source options → IsSome (source.holds (text_or opt.New options))
+    → IsDetermined (audit_read source options)
+audit_read_determined source options calm known candidate =
+    then_determined (inputs_read source options) (candidate_after options source) (inputs_determined source options calm known)
+    (λ inputs. then_determined (candidate_document source options) (λ doc. gives {A = AuditRead} (record { inputs = inputs; candidate = doc }))
+    (document_determined source New (text_or opt.New options) calm candidate)
+    (λ doc. gives_determined {A = AuditRead} (record { inputs = inputs; candidate = doc })))
+
+pub audit_determined : (source : Source) (options : Options) → IsCalm source → AreKnown source options → IsSome (source.holds (text_or opt.New options))
+    → IsDetermined (audit source options)
+audit_determined source options calm known candidate =
+    then_determined (audit_read source options) (audit_of options) (audit_read_determined source options calm known candidate)
+    (λ read. then_determined (accepted options read) (λ passed. gives yes_line) (judged_determined (VerdictOf (audited options read)) AuditNo (verdict_one (audited options read)))
+    (λ passed. gives_determined yes_line))
+
 -- the files of a list are known
 abbrev AllKnown : Source → List (List ℕ) → Type 0
 AllKnown source names = All (λ name. IsSome (source.holds name)) names
@@ -370,28 +387,12 @@ excerpt_determined source options calm known over =
 
 -- ---- the files of the words
 
-pub front_known : (P : List ℕ → Type 0) (names others : List (List ℕ)) → All P (names ++ others) → (k : ℕ) (d : List ℕ) → k < length names → P (slice_index_or names k d)
-front_known P [] others h k d within = absurd (omega (arith, within))
-front_known P (name ∷ names) others h zero d within = h zero d (omega arith)
-front_known P (name ∷ names) others h (suc k) d within = front_known P names others (λ k d within. h (suc k) d (omega (arith, within))) k d (omega (arith, within))
-
-pub others_known : (P : List ℕ → Type 0) (names others : List (List ℕ)) → All P (names ++ others) → All P others
-others_known P [] others h = h
-others_known P (name ∷ names) others h = others_known P names others (λ k d within. h (suc k) d (omega (arith, within)))
-
-pub one_known : (P : List ℕ → Type 0) (named : Option (List ℕ)) → All P (option_to_list named) → IfSome named P
-one_known P None h = tt
-one_known P (Some name) h = h 0 [] (search rules)
-
-pub named_known : (P : List ℕ → Type 0) (named : Option (List ℕ)) → is_none named ≡ false → IfSome named P → P (unwrap_or named [])
-named_known P None given h = cc
-named_known P (Some name) given h = h
-
--- the leap second kernel, where it is named, the clock kernel, the observations and the kernels of `--over`
+-- the leap second kernel, where it is named, the clock kernel, the observations, the candidate and the kernels of `--over`
 pub record HaveBytes (source : Source) (options : Options) : Type 0 where
   leap : IfSome (options opt.Leap) (λ name. IsSome (source.holds name))
   kernel : IfSome (options opt.Kernel) (λ name. IsSome (source.holds name))
   observations : IfSome (options opt.Obs) (λ name. IsSome (source.holds name))
+  candidate : IfSome (options opt.New) (λ name. IsSome (source.holds name))
   over : AllKnown source (named_over options)
 
 pub have_bytes : (source : Source) (options : Options) → All (λ name. IsSome (source.holds name)) (files_of options) → HaveBytes source options
@@ -409,6 +410,7 @@ have_bytes source options h =
       leap = one_known P (options opt.Leap) (front_known P leap kernel two);
       kernel = one_known P (options opt.Kernel) (others_known P leap kernel two);
       observations = one_known P (options opt.Obs) (others_known P (leap ++ kernel) observations three);
+      candidate = one_known P (options opt.New) (others_known P (leap ++ kernel ++ observations) new without_over);
       over = others_known P (leap ++ kernel ++ observations ++ new) over h;
     }
 
@@ -434,6 +436,9 @@ command_determined Normal source options calm named known =
 command_determined Convert source options calm named known = convert_determined source options calm (files_open source options named known)
 command_determined Sample source options calm named known = sample_determined source options
 command_determined Invert source options calm named known = invert_determined source options calm (files_open source options named known)
+command_determined Audit source options calm named known =
+    audit_determined source options calm (files_known source options (named.0, named.1) known)
+    (named_known (λ name. IsSome (source.holds name)) (options opt.New) named.2 known.candidate)
 command_determined Excerpt source options calm named known =
     excerpt_determined source options calm (named_known (λ name. IsSome (source.holds name)) (options opt.Kernel) named known.kernel) known.over
 command_determined Least source options calm named known = least_determined source options calm (files_known source options named known)

@@ -1,16 +1,15 @@
 -- Where no count rose, a run that asks for a publication ends with what is published, unless memory runs out.
-use Rattle.std.proofs.Common.{◌≡◌, ◌⊎◌, ℕ, zero, suc, ◌+◌, ◌<◌, ◌≤◌, List, [], ◌∷◌, ◌++◌, length, Option, Some, None, Result, Ok, Err, refl, sym, ap, subst, ◌∙◌, inl, inr, arith, length-append}
+use Rattle.std.proofs.Common.{◌≡◌, ◌⊎◌, ℕ, suc, ◌≤◌, List, [], ◌∷◌, ◌++◌, length, Option, Some, None, Result, Ok, Err, refl, sym, ap, subst, ◌∙◌, inl, inr, arith, length-append}
 use Rattle.std.specs.Io.KnownBytes.{Appends}
 use Rattle.std.specs.Prelude.{All, IsSome, IfSome, codes}
 use Rattle.std.specs.List.{AllByRecursion}
 use Rattle.sk_checks.specs.Checks.{NoneRefuses}
 use Rattle.sk_checks.proofs.ChecksLemmas.{FirstRefuses-some}
-use Rattle.sk_grammar.specs.Document.{DocView}
 use Rattle.sk_grammar.specs.Canonical.{canonical_text}
 use Rattle.sk_grammar.specs.Variables.{variables_of, items_of}
 use Rattle.sk_leap.specs.declared.pair.LeapPair.{LeapPair}
 use Rattle.sk_clock.specs.Clock.{total}
-use Rattle.sk_publishing.specs.Row.{RowView, AreRows}
+use Rattle.sk_publishing.specs.Row.{RowView}
 use Rattle.sk_line.specs.Triple.{TripleView}
 use Rattle.sk_line.specs.Line.{covering}
 use Rattle.sk_publishing.specs.Chain.{new_triples}
@@ -18,7 +17,6 @@ use Rattle.sk_publishing.specs.Input.{Input, AreTooMany}
 use Rattle.sk_publishing.specs.Terms.{sights}
 use Rattle.sk_publishing.specs.Kept.{IsPublication}
 use Rattle.sk_publishing.proofs.Sorting.{one_publication}
-use Rattle.sk_triples.specs.Kernel.{TriplesView}
 use Rattle.sk_fit.specs.declared.chain.Chain.{Chain}
 use Rattle.sk_fit.specs.Given.{segments_of, new_triples_of}
 use Rattle.sk_fit.specs.Causes.{Gives, input}
@@ -34,22 +32,22 @@ use Rattle.sk_status.specs.declared.status.Status.TheVariants.{Done, WriteFault,
 use Rattle.sk_status.specs.Written.{Written}
 use Rattle.sk_outcome.specs.Ending.{Ends}
 use Rattle.sk_outcome.specs.Seen.{Source}
-use Rattle.sk_outcome.specs.Files.{KernelRead, OpenedRead, InputsRead, sc_of, leap_named, leap_file, kernel_file, observation_file, opened_read, inputs_read}
+use Rattle.sk_outcome.specs.Files.{KernelRead, OpenedRead, InputsRead, sc_of, leap_named, kernel_file, observation_file, opened_read, inputs_read}
 use Rattle.sk_outcome.specs.Output.{settings_of, new_kernel, published_doc}
-use Rattle.sk_outcome.specs.Outcome.{requested, outcome, outcome_of, publish, publish_of, chain_of, all_covered}
+use Rattle.sk_outcome.specs.Outcome.{requested, outcome, outcome_of, publish, publish_of}
 use Rattle.sk_outcome.specs.Publishing.{after_chain}
-use Rattle.sk_headline.specs.Headline.{AreHeld, IsShort, IsLeapHeld, GivePairs, IsKernel, IsPublished, terms_for}
-use Rattle.sk_headline.proofs.Complete.{IsCalm, AreOpen, AreKnown, asked_for, inputs_determined}
+use Rattle.sk_headline.specs.Headline.{AreHeld, IsShort, IsLeapHeld, GivePairs, IsKernel, IsPublished}
+use Rattle.sk_headline.proofs.Complete.{IsCalm, AreKnown, asked_for, inputs_determined}
 use Rattle.sk_headline.proofs.NewTriples.{new_triples_seen}
 use Rattle.sk_headline.proofs.OneText.{one_text}
 use Rattle.sk_headline.proofs.Published.{published_text}
 use Rattle.sk_headline.proofs.Ranges.{AreSound, rows_ranges, triples_ranges}
-use Rattle.sk_headline.proofs.Settings.{AreWithin, are_within}
+use Rattle.sk_headline.proofs.Settings.{are_within}
 use Rattle.sk_headline.proofs.Timed.{none_refused}
 
 -- ---- what is read
 
-known_leap : (source : Source) (name bytes : Option (List ℕ)) → IsLeapHeld source.holds name bytes → IfSome name (λ name. IsSome (source.holds name))
+pub known_leap : (source : Source) (name bytes : Option (List ℕ)) → IsLeapHeld source.holds name bytes → IfSome name (λ name. IsSome (source.holds name))
 known_leap source None bytes held = tt
 known_leap source (Some name) None held = let none = held.1 in cc
 known_leap source (Some name) (Some bytes) held = let same = held.0 in cc
@@ -57,7 +55,7 @@ known_leap source (Some name) (Some bytes) held = let same = held.0 in cc
 pub known_file : (held : Option (List ℕ)) (bytes : List ℕ) → held ≡ Some bytes → IsSome held
 known_file held bytes e = subst IsSome (sym e) refl
 
-read_so : (held : Option (List ℕ)) (bytes : List ℕ) → held ≡ Some bytes → IfSome held (λ file. bytes ≡ file)
+pub read_so : (held : Option (List ℕ)) (bytes : List ℕ) → held ≡ Some bytes → IfSome held (λ file. bytes ≡ file)
 read_so held bytes e = subst (λ (o : Option (List ℕ)). IfSome o (λ file. bytes ≡ file)) (sym e) refl
 
 leap_read : (source : Source) (name bytes : Option (List ℕ)) (pairs : List LeapPair) → IsLeapHeld source.holds name bytes → IfSome bytes IsShort → GivePairs bytes pairs
@@ -100,7 +98,7 @@ module _ (options : Options) (source : Source) (leap_bytes : Option (List ℕ)) 
   abbrev inputs : InputsRead
   inputs = record { kernel = p.old; observations = p.observations }
 
-  inputs_are : inputs_read source options (Ok inputs)
+  pub inputs_are : inputs_read source options (Ok inputs)
   inputs_are = (opened, opened_is, (p.observations, rows_read, refl))
 
   -- ---- what is made of it

@@ -3,6 +3,8 @@ pub mod OneAnswer
 pub mod OneRecord
 pub mod LeapTables
 pub mod OneUtc
+pub mod OneVerdict
+pub mod Known
 pub mod Complete
 pub mod NewTriples
 pub mod Reread
@@ -12,11 +14,14 @@ pub mod Ranges
 pub mod Documents
 pub mod Settings
 pub mod SameClock
+pub mod Promised
 pub mod Published
 pub mod OneText
 pub mod Inverted
 pub mod Timed
 pub mod Exactly
+pub mod Candidates
+pub mod Accepted
 pub mod Uses
 pub mod Named
 pub mod Fewest

@@ -1,11 +1,11 @@
 -- What words come to depends on the files that they name alone.
-use Rattle.std.proofs.Common.{◌≡◌, ℕ, ◌+◌, ◌<◌, ◌≤◌, List, [], ◌∷◌, ◌++◌, length, codes, Option, Some, None, Result, Ok, Err, refl, sym, ap, subst, ◌∙◌, inl, inr, arith}
+use Rattle.std.proofs.Common.{◌≡◌, ℕ, ◌+◌, ◌<◌, ◌≤◌, List, [], ◌∷◌, ◌++◌, length, codes, Option, Some, None, Result, Ok, Err, refl, sym, subst, inl, inr, arith}
 use Rattle.std.specs.Prelude.{All, IsSome, IfSome, is_none, false, unwrap_or}
 use Rattle.std.specs.Option.{option_to_list, option_map_or}
 use Rattle.sk_grammar.specs.Document.{DocView}
 use Rattle.sk_leap.specs.declared.pair.LeapPair.{LeapPair}
 use Rattle.sk_words.specs.declared.tables.Command.{Command}
-use Rattle.sk_words.specs.declared.tables.Command.TheVariants.{Publish, Residuals, Normal, Convert, Sample, Invert, Excerpt, Least}
+use Rattle.sk_words.specs.declared.tables.Command.TheVariants.{Publish, Residuals, Normal, Convert, Sample, Invert, Audit, Excerpt, Least}
 use Rattle.sk_words.specs.declared.tables.OptionName.TheVariants as opt
 use Rattle.sk_words.specs.declared.topic.Topic.{Topic}
 use Rattle.sk_words.specs.Asked.{Request}
@@ -15,18 +15,19 @@ use Rattle.sk_words.specs.Topics.{topic_of}
 use Rattle.sk_words.proofs.Needed.{AreNamed, are_named}
 use Rattle.sk_status.specs.declared.status.Status.{Status}
 use Rattle.sk_status.specs.declared.status.DocumentKind.{DocumentKind}
-use Rattle.sk_status.specs.declared.status.DocumentKind.TheVariants.{Leap, Kernel, Over}
+use Rattle.sk_status.specs.declared.status.DocumentKind.TheVariants.{Leap, Kernel, New, Over}
 use Rattle.sk_status.specs.declared.status.FileKind.{FileKind}
 use Rattle.sk_status.specs.declared.status.FileKind.TheVariants.{Document, Observations}
 use Rattle.sk_excerpt.specs.Excerpt.{joined}
-use Rattle.sk_outcome.specs.Stage.{Stage, ◌>>=◌, gives, IsDetermined}
+use Rattle.sk_outcome.specs.Stage.{Stage, ◌>>=◌, gives}
 use Rattle.sk_outcome.specs.Seen.{Source}
-use Rattle.sk_outcome.specs.Files.{reads, judged, file_limit, DocOf, refused_by, document, leap_named, leap_file, leap_meaning, kernel_document, kernel_meaning, kernel_file, observation_file, observed, OpenedRead, InputsRead, opened_read, inputs_read, sc_of}
-use Rattle.sk_outcome.specs.Outcome.{requested, commanded, told_or, outcome, outcome_of, publish_of, residuals_of, normal_of, convert_of, sample, invert_of, excerpt_of, least_of}
+use Rattle.sk_outcome.specs.Files.{reads, judged, file_limit, DocOf, refused_by, document, leap_named, leap_file, leap_meaning, kernel_document, kernel_meaning, kernel_file, observation_file, observed, OpenedRead, InputsRead, AuditRead, opened_read, inputs_read, candidate_document, audit_read, sc_of}
+use Rattle.sk_outcome.specs.Outcome.{requested, commanded, told_or, outcome, outcome_of, publish_of, residuals_of, normal_of, convert_of, sample, invert_of, audit_of, excerpt_of, least_of}
 use Rattle.sk_outcome.specs.Joined.{over_documents, joined_behind, named_over, joined_kernel}
 use Rattle.sk_headline.specs.Uses.{quiet, EachNamed, OneOutcome, NamedFilesAlone}
-use Rattle.sk_headline.proofs.Determined.{then_determined_of, gives_determined}
-use Rattle.sk_headline.proofs.Complete.{HaveBytes, have_bytes, front_known, others_known, one_known, named_known, command_determined, requested_determined}
+use Rattle.sk_headline.proofs.Determined.{gives_determined}
+use Rattle.sk_headline.proofs.Known.{front_known, others_known, one_known, named_known}
+use Rattle.sk_headline.proofs.Complete.{have_bytes, command_determined, requested_determined}
 
 -- ---- the names of a command's files
 
@@ -149,6 +150,16 @@ module _ (s u : Source) (read : s.given ≤ u.given) where
         (λ rows. gives {A = InputsRead} (record { kernel = opened.kernel; observations = rows })) (λ rows. gives {A = InputsRead} (record { kernel = opened.kernel; observations = rows }))
         (observations_moved opened observations) (λ rows. unmoved (gives {A = InputsRead} (record { kernel = opened.kernel; observations = rows }))))
 
+    pub audit_moved : IfSome (options opt.Leap) Same → HaveKernel → Same (text_or opt.Obs options) → Same (text_or opt.New options) → Moved (audit_read s options) (audit_read u options)
+    audit_moved leap kernel observations candidate =
+        then_moved (inputs_read s options) (inputs_read u options)
+        (λ inputs. candidate_document s options >>= (λ doc. gives {A = AuditRead} (record { inputs = inputs; candidate = doc })))
+        (λ inputs. candidate_document u options >>= (λ doc. gives {A = AuditRead} (record { inputs = inputs; candidate = doc })))
+        (inputs_moved leap kernel observations)
+        (λ inputs. then_moved (candidate_document s options) (candidate_document u options)
+        (λ doc. gives {A = AuditRead} (record { inputs = inputs; candidate = doc })) (λ doc. gives {A = AuditRead} (record { inputs = inputs; candidate = doc }))
+        (document_moved New (text_or opt.New options) candidate) (λ doc. unmoved (gives {A = AuditRead} (record { inputs = inputs; candidate = doc }))))
+
     -- ---- commands
 
     given : (name : Option (List ℕ)) → is_none name ≡ false → IfSome name Same → Same (unwrap_or name [])
@@ -171,6 +182,10 @@ module _ (s u : Source) (read : s.given ≤ u.given) where
     command_moved Invert named files =
         then_moved (opened_read s options) (opened_read u options) (invert_of options) (invert_of options)
         (opened_moved files.leap (given (options opt.Kernel) named files.kernel)) (λ opened. unmoved (invert_of options opened))
+    command_moved Audit named files =
+        then_moved (audit_read s options) (audit_read u options) (audit_of options) (audit_of options)
+        (audit_moved files.leap (given (options opt.Kernel) named.0 files.kernel) (given (options opt.Obs) named.1 files.observations) (given (options opt.New) named.2 files.new))
+        (λ read. unmoved (audit_of options read))
     command_moved Excerpt named files =
         then_moved (joined_kernel s options) (joined_kernel u options) (excerpt_of options) (excerpt_of options)
         (joined_moved (given (options opt.Kernel) named files.kernel) files.over) (λ doc. unmoved (excerpt_of options doc))

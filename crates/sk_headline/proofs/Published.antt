@@ -1,29 +1,24 @@
 -- What is published is a kernel with all that a publication promises.
-use Rattle.std.proofs.Common.{◌≡◌, ◌⊎◌, ℕ, ◌^◌, ◌<◌, ◌≤◌, List, [], ◌∷◌, ◌++◌, length, Option, Some, None, Result, Ok, refl, sym, ap, subst, ◌∙◌, inl, inr, arith, length-append}
-use Rattle.std.proofs.lemmas.Bool.{cases_order}
+use Rattle.std.proofs.Common.{◌≡◌, ℕ, List, [], ◌∷◌, ◌++◌, Option, Some, None, Result, Ok, refl, sym, subst}
 use Rattle.std.proofs.lemmas.List.Elements.{All-weaker}
 use Rattle.std.specs.Io.KnownBytes.{Appends}
-use Rattle.std.specs.Prelude.{ℤ, pos, ◌<ℤ◌, All, IfSome, codes, flat_map}
+use Rattle.std.specs.Prelude.{All, IsSome, IfSome, codes}
 use Rattle.std.specs.List.{AllByRecursion}
-use Rattle.sk_grammar.specs.Document.{ItemView, BlockView, DocView, IsDoc, IsTextLine}
-use Rattle.sk_grammar.specs.Variables.{VariableView, variables_of, items_of}
+use Rattle.sk_grammar.specs.Document.{DocView, IsDoc, IsTextLine}
+use Rattle.sk_grammar.specs.Variables.{VariableView}
 use Rattle.sk_grammar.specs.Spelling.{Spells}
 use Rattle.sk_grammar.specs.Canonical.{canonical_text}
-use Rattle.sk_grammar.proofs.CanonicalLines.{canonical_spelled}
-use Rattle.sk_clock.specs.Clock.{IsClock, ticks_per, total}
+use Rattle.sk_clock.specs.Clock.{IsClock, total}
 use Rattle.sk_publishing.specs.Row.{RowView, AreRows}
 use Rattle.sk_leap.specs.declared.pair.LeapPair.{LeapPair}
 use Rattle.sk_obs.specs.Observation.{IsId}
-use Rattle.sk_publishing.specs.Terms.{Sight, Terms, sights, partition_at}
+use Rattle.sk_publishing.specs.Terms.{sights}
 use Rattle.sk_line.specs.Triple.{TripleView}
-use Rattle.sk_line.specs.Line.{FallsOver}
-use Rattle.sk_publishing.specs.Chain.{SegmentView, EachFollowed, FirstAndLater, IsMaximal, IsOldRate, IsGridRate, AreMaximal, new_triples, first_or, covered_by}
-use Rattle.sk_triples.specs.Kernel.{IsTriple, Rise, AreTriples, AreKept}
-use Rattle.sk_publishing.specs.Meets.{IsWithinTolerance}
+use Rattle.sk_line.specs.Line.{covering}
+use Rattle.sk_publishing.specs.Chain.{SegmentView, new_triples}
+use Rattle.sk_triples.specs.Kernel.{AreTriples, AreKept}
 use Rattle.sk_publishing.specs.Table.{kernel_view, table_lines}
-use Rattle.sk_publishing.specs.Published.{published_block, triple_values, appended}
-use Rattle.sk_triples.proofs.KernelOf.{positive_count}
-use Rattle.sk_line.proofs.Lists.{all_map}
+use Rattle.sk_publishing.specs.Published.{published_block, appended}
 use Rattle.sk_fit.specs.declared.chain.Chain.{Chain}
 use Rattle.sk_fit.specs.Given.{terms_of, segments_of, new_triples_of, chain_view}
 use Rattle.sk_fit.specs.Causes.{Gives, input}
@@ -45,138 +40,50 @@ use Rattle.sk_outcome.specs.Seen.{Source}
 use Rattle.sk_outcome.specs.Files.{KernelRead, OpenedRead, InputsRead, sc_of, leap_named, leap_file, kernel_file, observation_file, opened_read, inputs_read, LeapOf, ClockOf, TriplesOf, ObservationsOf}
 use Rattle.sk_outcome.specs.Output.{settings_of, dated, new_kernel, published_doc, published_table}
 use Rattle.sk_outcome.specs.Outcome.{requested, outcome, outcome_of, publish, all_covered}
-use Rattle.sk_headline.specs.Headline.{AreHeld, AreShort, IsShort, IsLeapHeld, GivePairs, IsKernel, MayEnd, IsPublished, doc_with}
-use Rattle.sk_publishing.specs.Told.{told, HasSmallResidual}
-use Rattle.sk_publishing.proofs.Order.{order_law}
-use Rattle.sk_publishing.proofs.SmallSteps.{step_law}
-use Rattle.sk_publishing.proofs.Barred.{barred_law}
-use Rattle.sk_publishing.proofs.Marks.{marks_law}
-use Rattle.sk_publishing.proofs.Residuals.{residual_law}
+use Rattle.sk_headline.specs.Headline.{AreHeld, AreShort, IsShort, IsLeapHeld, GivePairs, IsKernel, IsPublished, doc_with}
+use Rattle.sk_publishing.specs.Told.{told}
 use Rattle.sk_headline.proofs.Complete.{asked_for}
+use Rattle.sk_headline.proofs.Promised.{clocked, known, kept, promised}
 use Rattle.sk_headline.proofs.Documents.{spelled_valid, published_valid}
-use Rattle.sk_headline.proofs.NewJoins.{falls_stand}
-use Rattle.sk_headline.proofs.NewTimes.{kept_within, sights_rise, triples_rise}
 use Rattle.sk_headline.proofs.Timed.{all_timed}
 use Rattle.sk_headline.proofs.NewTriples.{new_triples_seen}
-use Rattle.sk_headline.proofs.Ranges.{AreSound, clock_ranges, triples_ranges, rows_ranges}
-use Rattle.sk_headline.proofs.Reread.{reread, items_behind, old_plain}
-use Rattle.sk_headline.proofs.SameClock.{same_clock, none_mixes}
 use Rattle.sk_headline.proofs.Settings.{AreWithin, are_within, settings_ranges, sc_range, dated_range}
-
--- ---- where triples begin
-
-same_or_not : (a b : ℕ) → (a ≡ b) ⊎ (a ≡ b → ⊥)
-same_or_not a b = elim (cases_order a b) [
-  | inl same ↦ inl same
-  | inr apart ↦ elim apart [
-    | inl less ↦ inr (λ same. omega (arith, less, same))
-    | inr more ↦ inr (λ same. omega (arith, more, same))
-  ]
-]
-
-may_end : (allowed : ℤ → Type 0) (t : Terms) (s : SegmentView) (next : Option Sight) → IsMaximal allowed t s next → MayEnd allowed t s next
-may_end allowed t s None h = tt
-may_end allowed t s (Some o) h = elim (same_or_not (partition_at t o.tick) (partition_at t s.anchor.ticks)) [
-  | inl same ↦ inr (h same)
-  | inr other ↦ inl other
-]
-
-each_may_end : (t : Terms) (chain : List SegmentView) (next : Option Sight) → EachFollowed (IsMaximal (IsGridRate t) t) chain next → EachFollowed (MayEnd (IsGridRate t) t) chain next
-each_may_end t [] next h = tt
-each_may_end t (s ∷ later) next h = (may_end (IsGridRate t) t s (first_or (covered_by later) next) h.0, each_may_end t later next h.1)
-
-all_may_end : (t : Terms) (chain : List SegmentView) (next : Option Sight) → AreMaximal t chain next → FirstAndLater (MayEnd (IsOldRate t) t) (MayEnd (IsGridRate t) t) chain next
-all_may_end t [] next h = tt
-all_may_end t (s ∷ later) next h = (may_end (IsOldRate t) t s (first_or (covered_by later) next) h.0, each_may_end t later next h.1)
 
 -- ---- the new kernel
 
 module _ (options : Options) (within : AreWithin options) (leap_bytes : Option (List ℕ)) (kernel_bytes observation_bytes : List ℕ) (leap : List LeapPair) (old : KernelRead)
     (rows : List RowView) (chain : Chain) (is_old : IsKernel (sc_of options) kernel_bytes old) (are : ObservationsOf observation_bytes old.clock leap (Ok rows))
     (g : Gives (input old.triples old.clock rows (settings_of options)) chain) (covers : all_covered (new_kernel old chain) rows (Ok tt)) where
-  abbrev variables : List VariableView
-  variables = variables_of (items_of old.doc)
-
   abbrev added : List TripleView
   added = new_triples_of chain
 
   abbrev segments : List SegmentView
   segments = segments_of (sights rows) chain
 
-  abbrev terms : Terms
-  terms = terms_of (settings_of options) old.clock g.old
+  clock_known : IsClock old.clock
+  clock_known = clocked (sc_of options) kernel_bytes observation_bytes leap old rows is_old are
 
-  clocked : IsClock old.clock
-  clocked = clock_ranges variables (sc_of options) old.clock is_old.has_clock
+  rows_known : AreRows (total old.clock) rows × All (λ row. IsId row.id) rows
+  rows_known = known (sc_of options) kernel_bytes observation_bytes leap old rows is_old are
 
-  sound : AreSound old.triples
-  sound = triples_ranges variables old.clock (sc_of options) old.triples is_old.has_triples
-
-  known : AreRows (total old.clock) rows × All (λ row. IsId row.id) rows
-  known = rows_ranges observation_bytes old.clock leap rows are
-
-  some_triples : 0 < length old.triples.triples
-  some_triples = omega (arith, ap length g.begins.last.1, length-append g.begins.last.0 (g.old ∷ []))
-
-  positive : 0 < ticks_per old.clock
-  positive = omega (arith, positive_count old.clock clocked)
-
-  kept : AreKept old.triples
-  kept =
-      let count : old.triples.per_count ≡ ticks_per old.clock = is_old.has_triples.1.of_clock.0 in
-      let all : old.triples.total ≡ total old.clock = is_old.has_triples.1.of_clock.1 in
-      let few : ticks_per old.clock ≤ 2 ^ 32 = clocked.moduli.2 in
-      let below : total old.clock < 2 ^ 53 = clocked.partitions.together in
-      record {
-        triples = record { some = some_triples; few = sound.few; each = sound.each; rise = sound.rise };
-        per_count = (omega (arith, positive), omega arith);
-        total = omega arith;
-      }
+  old_kept : AreKept old.triples
+  old_kept = kept (sc_of options) kernel_bytes observation_bytes leap old rows is_old are g.begins.last.0 g.old g.begins.last.1
 
   triples : AreTriples old.triples.total (old.triples.triples ++ added)
-  triples = gives_triples old.triples old.clock rows (settings_of options) chain (settings_ranges options within) (small_clock old.clock clocked) kept is_old.has_triples.1.of_clock known.0 g
+  triples = gives_triples old.triples old.clock rows (settings_of options) chain (settings_ranges options within) (small_clock old.clock clock_known) old_kept is_old.has_triples.1.of_clock rows_known.0 g
 
   abbrev doc : DocView
   doc = published_doc options old rows chain
 
-  abbrev block : BlockView
-  block = published_block (dated options) (sc_of options) added (published_table old rows chain)
-
   lines : All IsTextLine (published_table old rows chain)
-  lines = text_lines old.clock (new_kernel old chain) rows (Some chain) (All-weaker (λ (row : RowView). IsId row.id) (IsLined old.clock) (λ row id. (clocked, id)) rows known.1)
+  lines = text_lines old.clock (new_kernel old chain) rows (Some chain) (All-weaker (λ (row : RowView). IsId row.id) (IsLined old.clock) (λ row id. (clock_known, id)) rows rows_known.1)
 
   valid : IsDoc doc
   valid =
       published_valid old.doc (dated options) (sc_of options) added (published_table old rows chain) (spelled_valid kernel_bytes old.doc is_old.spelled) (dated_range options within)
-      (sc_range options within) (new_numbers old.triples.total old.triples.triples added kept.total triples) lines
+      (sc_range options within) (new_numbers old.triples.total old.triples.triples added old_kept.total triples) lines
 
-  abbrev new : KernelRead
-  new = record { doc = doc; clock = old.clock; triples = new_kernel old chain }
-
-  is_new : IsKernel (sc_of options) (canonical_text doc) new
-  is_new = record {
-    spelled = canonical_spelled doc valid;
-    unmixed = none_mixes old.doc doc (dated options) (sc_of options) added (items_behind old.doc block) is_old.unmixed (old_plain old.doc old.clock (sc_of options) old.triples is_old.has_triples);
-    has_clock = subst (λ (items : List ItemView). ClockOf (variables_of items) (sc_of options) (Ok old.clock)) (sym (items_behind old.doc block))
-        (same_clock (items_of old.doc) (dated options) (sc_of options) (flat_map triple_values added) old.clock is_old.has_clock);
-    has_triples = reread old.doc old.clock (sc_of options) old.triples (dated options) added (published_table old rows chain) is_old.has_triples
-        (subst (λ (m : ℕ). AreTriples m (old.triples.triples ++ added)) is_old.has_triples.1.of_clock.1 triples);
-  }
-
-  -- the old triples and those of the segments
-  joined : (g.begins.last.0 ++ g.old ∷ []) ++ new_triples segments ≡ old.triples.triples ++ added
-  joined = ap (λ (ts : List TripleView). ts ++ new_triples segments) (sym g.begins.last.1) ∙ ap (λ (ts : List TripleView). old.triples.triples ++ ts) (sym (new_triples_seen (sights rows) chain))
-
-  near : AllByRecursion (IsWithinTolerance terms.gauge (old.triples.triples ++ added)) g.publication.kept
-  near = subst (λ (ts : List TripleView). AllByRecursion (IsWithinTolerance terms.gauge ts) g.publication.kept) joined
-      (kept_within terms (total old.clock) rows g.begins.last.0 g.publication.kept g.dropped segments positive known.0 (subst Rise (sym joined) triples.rise) g.publication.sorts g.publication.is_chain)
-
-  falls : (i : ℕ) → FallsOver (ticks_per old.clock) (old.triples.triples ++ added) (pos 0) i → FallsOver (ticks_per old.clock) old.triples.triples (pos 0) i
-  falls i f = subst (λ (ts : List TripleView). FallsOver (ticks_per old.clock) ts (pos 0) i) (sym g.begins.last.1)
-      (falls_stand terms g.begins.last.0 g.publication.kept None segments positive g.publication.is_chain i
-      (subst (λ (ts : List TripleView). FallsOver (ticks_per old.clock) ts (pos 0) i) (sym joined) f)).1
-
-  view : chain_view (sights rows) chain ≡ told terms rows g.dropped segments
+  view : chain_view (sights rows) chain ≡ told (terms_of (settings_of options) old.clock g.old) rows g.dropped segments
   view = λ i. record { first_new = g.first_new i; dropped = g.dropped_places i; segments = segments }
 
   seen : added ≡ new_triples segments
@@ -185,46 +92,17 @@ module _ (options : Options) (within : AreWithin options) (leap_bytes : Option (
   same_doc : doc ≡ doc_with options old g.old rows g.dropped segments
   same_doc = λ i. appended old.doc (published_block (dated options) (sc_of options) (seen i) (table_lines (kernel_view 12 old.clock (old.triples.triples ++ seen i)) (Some (view i)) rows))
 
-  pub is_published : AreShort leap_bytes kernel_bytes observation_bytes → GivePairs leap_bytes leap → IsPublished options leap_bytes kernel_bytes observation_bytes (canonical_text doc)
-  is_published short is_leap = record {
-    short = short;
-    leap = leap;
-    is_leap = is_leap;
-    old = old;
-    is_old = is_old;
-    observations = rows;
-    are_observations = are;
-    new = new;
-    is_new = is_new;
-    same_clock = refl;
-    is_doc = same_doc;
-    is_text = refl;
-    front = g.begins.last.0;
-    last = g.old;
-    is_last = g.begins.last.1;
-    dropped = g.dropped;
-    chain = segments;
-    publication = g.publication;
-    stand = ap (λ (ts : List TripleView). old.triples.triples ++ ts) (new_triples_seen (sights rows) chain);
-    within = near;
-    falls = falls;
-    rises = all_map (IsTriple old.triples.total) (λ (t : TripleView). pos 0 <ℤ t.rate) (λ t is. is.positive) (old.triples.triples ++ added) triples.each;
-    begins = all_may_end terms segments None g.publication.is_chain.maximal;
-    begun = g.begins;
-    timed = all_timed (new_kernel old chain) rows covers.0;
-    ordered = λ a b over_a over_b less stands at_a at_b. order_law (ticks_per old.clock) (old.triples.triples ++ added) a b over_a over_b positive
-        (triples_rise (old.triples.triples ++ added) triples.rise)
-        (all_map (IsTriple old.triples.total) (λ (t : TripleView). pos 0 <ℤ t.rate) (λ t is. is.positive) (old.triples.triples ++ added) triples.each) less stands at_a at_b;
-    steps = step_law terms g.publication.kept None segments positive g.publication.is_chain;
-    barred = barred_law terms g.publication.kept None segments g.publication.is_chain;
-    marked = marks_law terms rows g.dropped segments (sights_rise 0 rows known.0.rising) g.publication;
-    residuals = all_map (IsWithinTolerance terms.gauge (old.triples.triples ++ added)) (HasSmallResidual (kernel_view 12 old.clock (old.triples.triples ++ added)) terms.gauge)
-        (λ o near. residual_law (kernel_view 12 old.clock (old.triples.triples ++ added)) terms.gauge o refl refl positive near) g.publication.kept near;
-  }
+  is_published : AreShort leap_bytes kernel_bytes observation_bytes → GivePairs leap_bytes leap → IsPublished options leap_bytes kernel_bytes observation_bytes (canonical_text doc)
+  is_published short is_leap =
+      subst (λ (d : DocView). IsPublished options leap_bytes kernel_bytes observation_bytes (canonical_text d)) (sym same_doc)
+      (promised options leap_bytes kernel_bytes observation_bytes leap old rows g.old g.dropped segments is_old are g.begins g.publication
+      (subst (λ (ts : List TripleView). AreTriples old.triples.total (old.triples.triples ++ ts)) seen triples)
+      (subst (λ (ts : List TripleView). AllByRecursion (λ (row : RowView). IsSome (covering (old.triples.triples ++ ts) row.tick)) rows) seen (all_timed (new_kernel old chain) rows covers.0))
+      (subst IsDoc same_doc valid) short is_leap)
 
 -- ---- the files
 
-read_is : (held : Option (List ℕ)) (read bytes : List ℕ) → IfSome held (λ file. read ≡ file) → held ≡ Some bytes → read ≡ bytes
+pub read_is : (held : Option (List ℕ)) (read bytes : List ℕ) → IfSome held (λ file. read ≡ file) → held ≡ Some bytes → read ≡ bytes
 read_is held read bytes h e = subst (λ (o : Option (List ℕ)). IfSome o (λ file. read ≡ file)) e h
 
 pairs_of : (source : Source) (name bytes : Option (List ℕ)) (pairs : List LeapPair) → leap_named source name (Ok pairs) → IsLeapHeld source.holds name bytes → GivePairs bytes pairs
@@ -283,29 +161,45 @@ inputs_are source options inputs h =
           (subst (λ (os : List RowView). observation_file source options h.0 (Ok os)) rows h.2.1),
     )
 
+-- what the files of a publication mean
+pub record AreMeant (options : Options) (leap_bytes : Option (List ℕ)) (kernel_bytes observation_bytes : List ℕ) (inputs : InputsRead) : Type 0 where
+  pub short : AreShort leap_bytes kernel_bytes observation_bytes
+  pub leap : List LeapPair
+  pub is_leap : GivePairs leap_bytes leap
+  pub is_old : IsKernel (sc_of options) kernel_bytes inputs.kernel
+  pub are : ObservationsOf observation_bytes inputs.kernel.clock leap (Ok inputs.observations)
+
+pub are_meant : (source : Source) (options : Options) (leap_bytes : Option (List ℕ)) (kernel_bytes observation_bytes : List ℕ) (inputs : InputsRead)
+    → AreHeld source.holds options leap_bytes kernel_bytes observation_bytes → inputs_read source options (Ok inputs) → AreMeant options leap_bytes kernel_bytes observation_bytes inputs
+are_meant source options leap_bytes kernel_bytes observation_bytes inputs held h =
+    let read = inputs_are source options inputs h in
+    let leap : List LeapPair = read.0 in
+    let same : read.3.0 ≡ observation_bytes = read_is (source.holds (text_or opt.Obs options)) read.3.0 observation_bytes read.3.1.1 held.observations in
+    record {
+      short = record {
+        leap = short_leap source (options opt.Leap) leap_bytes leap read.1 held.leap;
+        kernel = subst IsShort (read_is (source.holds (text_or opt.Kernel options)) read.2.1.0 kernel_bytes read.2.1.1.1 held.kernel) read.2.1.1.0;
+        observations = subst IsShort same read.3.1.0;
+      };
+      leap = leap;
+      is_leap = pairs_of source (options opt.Leap) leap_bytes leap read.1 held.leap;
+      is_old = kernel_of source options kernel_bytes inputs.kernel read.2 held.kernel;
+      are = subst (λ (bytes : List ℕ). ObservationsOf bytes inputs.kernel.clock leap (Ok inputs.observations)) same read.3.2;
+    }
+
 -- ---- the run
 
 -- the text of a publication is a published kernel
 pub published_text : (source : Source) (options : Options) (leap_bytes : Option (List ℕ)) (kernel_bytes observation_bytes text : List ℕ) → AreWithin options
     → AreHeld source.holds options leap_bytes kernel_bytes observation_bytes → publish source options (Ok text) → IsPublished options leap_bytes kernel_bytes observation_bytes text
 published_text source options leap_bytes kernel_bytes observation_bytes text within held h =
-    let read = inputs_are source options h.0 h.1 in
-    let leap : List LeapPair = read.0 in
+    let files = are_meant source options leap_bytes kernel_bytes observation_bytes h.0 held h.1 in
     let old : KernelRead = h.0.kernel in
     let rows : List RowView = h.0.observations in
     let chain : Chain = h.2.0 in
-    let is_old : IsKernel (sc_of options) kernel_bytes old = kernel_of source options kernel_bytes old read.2 held.kernel in
-    let same : read.3.0 ≡ observation_bytes = read_is (source.holds (text_or opt.Obs options)) read.3.0 observation_bytes read.3.1.1 held.observations in
-    let are : ObservationsOf observation_bytes old.clock leap (Ok rows) = subst (λ (bytes : List ℕ). ObservationsOf bytes old.clock leap (Ok rows)) same read.3.2 in
-    let short : AreShort leap_bytes kernel_bytes observation_bytes = record {
-      leap = short_leap source (options opt.Leap) leap_bytes leap read.1 held.leap;
-      kernel = subst IsShort (read_is (source.holds (text_or opt.Kernel options)) read.2.1.0 kernel_bytes read.2.1.1.1 held.kernel) read.2.1.1.0;
-      observations = subst IsShort same read.3.1.0;
-    } in
     let is : text ≡ canonical_text (published_doc options old rows chain) = text_is text (canonical_text (published_doc options old rows chain)) h.2.2.2 in
     subst (IsPublished options leap_bytes kernel_bytes observation_bytes) (sym is)
-    (is_published options within leap_bytes kernel_bytes observation_bytes leap old rows chain is_old are h.2.1 h.2.2.1 short
-    (pairs_of source (options opt.Leap) leap_bytes leap read.1 held.leap))
+    (is_published options within leap_bytes kernel_bytes observation_bytes files.leap old rows chain files.is_old files.are h.2.1 h.2.2.1 files.short files.is_leap)
   where
     text_is : (a b : List ℕ) → ◌≡◌ {A = Result (List ℕ) Status} (Ok a) (Ok b) → a ≡ b
     text_is a b e = cc

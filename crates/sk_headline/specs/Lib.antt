@@ -1,3 +1,4 @@
 pub mod Headline
 pub mod Uses
 pub mod Fewest
+pub mod Accepted

@@ -1,5 +1,6 @@
 //! Laws of runs, of publications and of lines: functions with empty bodies, whose contracts are proved.
 
+ghost use Rattle.sk_headline.specs.Accepted.{AcceptedArePublished, PublishedAreAccepted, WrittenIsAccepted, CanonicalIsPublished};
 ghost use Rattle.sk_headline.specs.Fewest.{NoFewerTriples, NoFewerThanTold};
 ghost use Rattle.sk_headline.specs.Headline.{OneText};
 ghost use Rattle.sk_headline.specs.Uses.{OneOutcome, NamedFilesAlone, ReadAgain, AddsNothing, AddsOneBlock, NoneAddsNone, SameDocument, CanonicalIsRead, TextIsRead, UtcIsRead};
@@ -64,4 +65,13 @@ pub fn utc_is_read()
 pub fn no_fewer_triples()
     ensures kept { NoFewerTriples }
     ensures told { NoFewerThanTold }
+{}
+
+/// An audit accepts exactly the texts of what its options publish of its files, with any kernel ID: what `publish` writes
+/// is accepted, and what is accepted is, in canonical text, what `publish` writes.
+pub fn accepted_are_published()
+    ensures published { AcceptedArePublished }
+    ensures accepted { PublishedAreAccepted }
+    ensures written { WrittenIsAccepted }
+    ensures canonical { CanonicalIsPublished }
 {}

@@ -4,6 +4,7 @@
 mod laws;
 
 pub use laws::{
-    adds_nothing, adds_one_block, canonical_is_read, named_files_alone, no_fewer_triples,
-    none_adds_none, one_outcome, one_text, read_again, same_document, text_is_read, utc_is_read,
+    accepted_are_published, adds_nothing, adds_one_block, canonical_is_read, named_files_alone,
+    no_fewer_triples, none_adds_none, one_outcome, one_text, read_again, same_document,
+    text_is_read, utc_is_read,
 };

@@ -4,10 +4,10 @@ use Rattle.std.specs.Prelude.{codes}
 use Rattle.sk_status.specs.declared.status.DocumentKind.{DocumentKind}
 use Rattle.sk_grammar.specs.Document.{DocView}
 use Rattle.sk_excerpt.specs.Excerpt.{joined}
-use Rattle.sk_status.specs.declared.status.DocumentKind.TheVariants.{Leap, Kernel, Over}
+use Rattle.sk_status.specs.declared.status.DocumentKind.TheVariants.{Leap, Kernel, New, Over}
 use Rattle.sk_status.specs.declared.status.FileKind.TheVariants.{Document, Observations}
 use Rattle.sk_words.specs.declared.tables.Command.{Command}
-use Rattle.sk_words.specs.declared.tables.Command.TheVariants.{Publish, Residuals, Normal, Convert, Sample, Invert, Excerpt, Least}
+use Rattle.sk_words.specs.declared.tables.Command.TheVariants.{Publish, Residuals, Normal, Convert, Sample, Invert, Audit, Excerpt, Least}
 use Rattle.sk_words.specs.declared.tables.OptionName.TheVariants as opt
 use Rattle.sk_words.specs.Asked.{Request}
 use Rattle.sk_words.specs.Request.{Options, text_or}
@@ -16,8 +16,8 @@ use Rattle.sk_words.specs.Help.{page_of}
 use Rattle.sk_words.specs.Topics.{topic_of}
 use Rattle.sk_outcome.specs.Stage.{Stage, ◌>>=◌, gives}
 use Rattle.sk_outcome.specs.Seen.{Source}
-use Rattle.sk_outcome.specs.Files.{reads, judged, DocOf, refused_by, document, leap_meaning, leap_named, leap_file, kernel_document, kernel_meaning, kernel_file, observed, observation_file, OpenedRead, InputsRead, opened_read, inputs_read, sc_of}
-use Rattle.sk_outcome.specs.Outcome.{requested, commanded, told_or, outcome, outcome_of, publish_of, residuals_of, normal_of, convert_of, sample_of, invert_of, least_of, excerpt_of}
+use Rattle.sk_outcome.specs.Files.{reads, judged, DocOf, refused_by, document, leap_meaning, leap_named, leap_file, kernel_document, kernel_meaning, kernel_file, observed, observation_file, OpenedRead, InputsRead, AuditRead, opened_read, inputs_read, candidate_document, audit_read, sc_of}
+use Rattle.sk_outcome.specs.Outcome.{requested, commanded, told_or, outcome, outcome_of, publish_of, residuals_of, normal_of, convert_of, sample_of, invert_of, audit_of, least_of, excerpt_of}
 use Rattle.sk_outcome.specs.Sample.{made_inputs}
 use Rattle.sk_outcome.specs.Joined.{over_documents, joined_behind, named_over, joined_kernel}
 use Rattle.sk_leap.specs.declared.pair.LeapPair.{LeapPair}
@@ -73,8 +73,21 @@ rows_after_follow options opened =
     (observations_follow options opened)
     (λ rows. no_reading (gives {A = InputsRead} (record { kernel = opened.kernel; observations = rows })))
 
-inputs_follow : (options : Options) → Follows (λ s. inputs_read s options)
+pub inputs_follow : (options : Options) → Follows (λ s. inputs_read s options)
 inputs_follow options = then_follows (λ s. opened_read s options) (rows_after options) (opened_follows options) (rows_after_follow options)
+
+-- both of these, and the candidate follows
+abbrev pub candidate_after : Options → Source → InputsRead → Stage AuditRead
+candidate_after options source inputs = candidate_document source options >>= (λ candidate. gives (record { inputs = inputs; candidate = candidate }))
+
+pub candidate_follows : (options : Options) (inputs : InputsRead) → Follows (λ s. candidate_after options s inputs)
+candidate_follows options inputs =
+    then_follows (λ s. candidate_document s options) (λ s candidate. gives {A = AuditRead} (record { inputs = inputs; candidate = candidate }))
+    (document_follows New (text_or opt.New options))
+    (λ candidate. no_reading (gives {A = AuditRead} (record { inputs = inputs; candidate = candidate })))
+
+audit_follows : (options : Options) → Follows (λ s. audit_read s options)
+audit_follows options = then_follows (λ s. inputs_read s options) (candidate_after options) (inputs_follow options) (candidate_follows options)
 
 -- ---- several kernels
 
@@ -104,6 +117,7 @@ command_follows Normal options = then_follows (λ s. kernel_document s options) 
 command_follows Convert options = then_follows (λ s. opened_read s options) (λ s opened. convert_of options opened) (opened_follows options) (λ opened. no_reading (convert_of options opened))
 command_follows Sample options = no_reading (made_inputs options >>= sample_of options)
 command_follows Invert options = then_follows (λ s. opened_read s options) (λ s opened. invert_of options opened) (opened_follows options) (λ opened. no_reading (invert_of options opened))
+command_follows Audit options = then_follows (λ s. audit_read s options) (λ s read. audit_of options read) (audit_follows options) (λ read. no_reading (audit_of options read))
 command_follows Excerpt options = then_follows (λ s. joined_kernel s options) (λ s doc. excerpt_of options doc) (joined_follows options) (λ doc. no_reading (excerpt_of options doc))
 command_follows Least options = then_follows (λ s. inputs_read s options) (λ s inputs. least_of options inputs) (inputs_follow options) (λ inputs. no_reading (least_of options inputs))
 

@@ -196,3 +196,17 @@ inputs_read source options = do
   opened ← opened_read source options
   observations ← observation_file source options opened
   gives (record { kernel = opened.kernel; observations = observations })
+
+-- these, and then the document that is to be judged by them
+pub record AuditRead : Type 0 where
+  pub inputs : InputsRead
+  pub candidate : DocView
+
+abbrev pub candidate_document : Source → Options → Stage DocView
+candidate_document source options = document source New (text_or opt.New options)
+
+abbrev pub audit_read : Source → Options → Stage AuditRead
+audit_read source options = do
+  inputs ← inputs_read source options
+  candidate ← candidate_document source options
+  gives (record { inputs = inputs; candidate = candidate })

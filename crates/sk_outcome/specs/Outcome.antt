@@ -28,10 +28,9 @@ use Rattle.sk_excerpt.specs.Excerpt as ex
 use Rattle.sk_least.specs.Answer as cover
 use Rattle.sk_least.specs.declared.stretch.Stretch.{Stretch}
 use Rattle.sk_words.specs.declared.tables.Command.{Command}
-use Rattle.sk_words.specs.declared.tables.Command.TheVariants.{Publish, Residuals, Normal, Convert, Sample, Invert, Excerpt, Least}
+use Rattle.sk_words.specs.declared.tables.Command.TheVariants.{Publish, Residuals, Normal, Convert, Sample, Invert, Audit, Excerpt, Least}
 use Rattle.sk_status.specs.declared.status.Status.{Status}
 use Rattle.sk_status.specs.declared.status.Status.TheVariants.{WordsRefused, ObservationRefused, NotPublished, TimeRefused, AuditNo, ExcerptRefused, NoMemory}
-use Rattle.sk_status.specs.declared.status.DocumentKind.TheVariants.{New}
 use Rattle.sk_status.specs.declared.status.ObsStop.TheVariants as obs_stop
 use Rattle.sk_status.specs.declared.status.TimeStop.{TimeStop}
 use Rattle.sk_status.specs.declared.status.TimeStop.TheVariants as time_stop
@@ -43,9 +42,9 @@ use Rattle.sk_words.specs.declared.topic.Topic.{Topic}
 use Rattle.sk_outcome.specs.Stage.{Stage, ◌>>=◌, gives, some}
 use Rattle.sk_words.specs.Request.{Options, number_or, text_or}
 use Rattle.sk_outcome.specs.Seen.{Source}
-use Rattle.sk_outcome.specs.Files.{judged, document, kernel_document, kernel_meaning, KernelRead, OpenedRead, InputsRead, opened_read, inputs_read, sc_of}
+use Rattle.sk_outcome.specs.Files.{judged, kernel_document, kernel_meaning, KernelRead, OpenedRead, InputsRead, AuditRead, opened_read, inputs_read, audit_read, sc_of}
 use Rattle.sk_outcome.specs.Joined.{joined_kernel}
-use Rattle.sk_outcome.specs.Output.{settings_of, plain_table, published_doc, tick_fields, time_by, line_of, least_text, new_kernel}
+use Rattle.sk_outcome.specs.Output.{settings_of, audit_settings_of, plain_table, published_doc, tick_fields, time_by, line_of, yes_line, least_text, new_kernel}
 use Rattle.sk_outcome.specs.Time.{time_stops, IsUtcWord}
 use Rattle.sk_outcome.specs.Sample.{made_inputs, sample_line}
 
@@ -186,25 +185,28 @@ invert source options = do
   opened ← opened_read source options
   invert_of options opened
 
--- yes, or the fault
-abbrev pub verdict : aud.Audit → Stage ⊤
-verdict audit (Ok _) = aud.Decides audit Yes
-verdict audit (Err status) = (fault : AuditFault) × aud.Decides audit (No fault) × (status ≡ AuditNo fault)
+-- what is audited: the candidate as a publication over the kernel
+abbrev pub audited : Options → AuditRead → aud.Audit
+audited options read =
+    aud.audit_of read.inputs.kernel.doc read.candidate read.inputs.kernel.clock read.inputs.kernel.triples (sc_of options) read.inputs.observations (audit_settings_of options)
+
+-- yes, or the first fault
+abbrev pub VerdictOf : aud.Audit → Result ⊤ AuditFault → Type 0
+VerdictOf audit (Ok _) = aud.Decides audit Yes
+VerdictOf audit (Err fault) = aud.Decides audit (No fault)
+
+abbrev pub accepted : Options → AuditRead → Stage ⊤
+accepted options read = judged (VerdictOf (audited options read)) AuditNo
+
+abbrev pub audit_of : Options → AuditRead → Stage (List ℕ)
+audit_of options read = do
+  passed ← accepted options read
+  gives yes_line
 
 abbrev pub audit : Source → Options → Stage (List ℕ)
 audit source options = do
-  inputs ← inputs_read source options
-  doc ← document source New (text_or opt.New options)
-  accepted ← verdict (aud.audit_of inputs.kernel.doc doc inputs.kernel.clock inputs.kernel.triples (sc_of options) inputs.observations
-      (record {
-        tolerance = (settings_of options).tolerance;
-        rate_decimals = (settings_of options).rate_decimals;
-        band = (settings_of options).band;
-        slip = (settings_of options).slip;
-        hold = (settings_of options).hold;
-        reject = (settings_of options).reject;
-      }))
-  gives (line_of (codes "yes" ∷ []))
+  read ← audit_read source options
+  audit_of options read
 
 -- the part of a kernel from one tick to another
 abbrev pub cut_out : ℕ → ℕ → ℕ → KernelRead → Stage DocView
@@ -246,6 +248,7 @@ outcome_of Normal = normal
 outcome_of Convert = convert
 outcome_of Sample = sample
 outcome_of Invert = invert
+outcome_of Audit = audit
 outcome_of Excerpt = excerpt
 outcome_of Least = least
 

@@ -13,6 +13,7 @@ use Rattle.sk_publishing.specs.Published.{published_block, appended}
 use Rattle.sk_fit.specs.declared.chain.Chain.{Chain}
 use Rattle.sk_fit.specs.declared.settings.Settings.{Settings}
 use Rattle.sk_fit.specs.Given.{new_triples_of}
+use Rattle.sk_audit.specs.declared.settings.AuditSettings.{AuditSettings}
 use Rattle.sk_report.specs.Report.{table_of}
 use Rattle.sk_least.specs.declared.stretch.Stretch.{Stretch}
 use Rattle.sk_least.specs.declared.stretch.Stop.{Stop}
@@ -34,6 +35,17 @@ settings_of options = record {
   slip = record { units = pos (number_or 1000000 opt.SlipNs options) };
   hold = option_map (λ _. number_or 0 opt.Hold options) (options opt.Hold);
   reject = number_or 0 opt.Reject options;
+}
+
+-- the same, as the auditor has it
+abbrev pub audit_settings_of : Options → AuditSettings
+audit_settings_of options = record {
+  tolerance = (settings_of options).tolerance;
+  rate_decimals = (settings_of options).rate_decimals;
+  band = (settings_of options).band;
+  slip = (settings_of options).slip;
+  hold = (settings_of options).hold;
+  reject = (settings_of options).reject;
 }
 
 -- ---- tables
@@ -75,6 +87,10 @@ abbrev pub tick_fields : KernelRead → TripleView → ℕ → List (List ℕ)
 tick_fields kernel triple tick =
     clock_text kernel.clock tick ∷ decimal tick
     ∷ fixed_text 12 (time_by kernel triple tick) ∷ []
+
+-- what `audit` says of a kernel that is accepted
+abbrev pub yes_line : List ℕ
+yes_line = line_of (codes "yes" ∷ [])
 
 abbrev pub id_at : List RowView → ℕ → List ℕ
 id_at observations place = option_map_or (λ o. o.id) (slice_get observations place) []

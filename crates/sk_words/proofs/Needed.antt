@@ -2,7 +2,7 @@
 use Rattle.std.proofs.Common.{◌≡◌, List, ℕ, Option, None, Ok, false, sym, subst}
 use Rattle.std.specs.Prelude.{is_none}
 use Rattle.sk_words.specs.declared.tables.Command.{Command}
-use Rattle.sk_words.specs.declared.tables.Command.TheVariants.{Publish, Residuals, Normal, Convert, Sample, Invert, Excerpt, Least}
+use Rattle.sk_words.specs.declared.tables.Command.TheVariants.{Publish, Residuals, Normal, Convert, Sample, Invert, Audit, Excerpt, Least}
 use Rattle.sk_words.specs.declared.tables.OptionName.TheVariants as opt
 use Rattle.sk_words.specs.Words.{matches}
 use Rattle.sk_words.specs.Request.{Options, options_of, options_fault, first_missing, first_out_of_range, needs, used}
@@ -20,6 +20,7 @@ AreNamed Normal options = IsGiven (options opt.Kernel)
 AreNamed Convert options = IsGiven (options opt.Kernel)
 AreNamed Sample options = Unit {0}
 AreNamed Invert options = IsGiven (options opt.Kernel)
+AreNamed Audit options = IsGiven (options opt.Kernel) × IsGiven (options opt.Obs) × IsGiven (options opt.New)
 AreNamed Excerpt options = IsGiven (options opt.Kernel)
 AreNamed Least options = IsGiven (options opt.Kernel) × IsGiven (options opt.Obs)
 
@@ -34,6 +35,9 @@ named Normal options h = (none_found (λ name. is_none (options name)) (needs No
 named Convert options h = (none_found (λ name. is_none (options name)) (needs Convert) (no_fault (first_missing Convert options) (first_out_of_range options) h).0).0
 named Sample options h = tt
 named Invert options h = (none_found (λ name. is_none (options name)) (needs Invert) (no_fault (first_missing Invert options) (first_out_of_range options) h).0).0
+named Audit options h =
+    let given = none_found (λ name. is_none (options name)) (needs Audit) (no_fault (first_missing Audit options) (first_out_of_range options) h).0 in
+    (given.0, given.1.0, given.1.1.1.0)
 named Excerpt options h = (none_found (λ name. is_none (options name)) (needs Excerpt) (no_fault (first_missing Excerpt options) (first_out_of_range options) h).0).0
 named Least options h =
     let given = none_found (λ name. is_none (options name)) (needs Least) (no_fault (first_missing Least options) (first_out_of_range options) h).0 in

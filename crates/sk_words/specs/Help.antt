@@ -4,7 +4,7 @@ use Rattle.std.specs.List.{flat_map, list_any}
 use Rattle.std.specs.Str.{bytes_eq}
 use Rattle.sk_words.specs.declared.limits.Numbers.{Numbers}
 use Rattle.sk_words.specs.declared.tables.Command.{Command}
-use Rattle.sk_words.specs.declared.tables.Command.TheVariants.{Publish, Residuals, Normal, Convert, Sample, Invert, Excerpt, Least}
+use Rattle.sk_words.specs.declared.tables.Command.TheVariants.{Publish, Residuals, Normal, Convert, Sample, Invert, Audit, Excerpt, Least}
 use Rattle.sk_words.specs.declared.tables.OptionName.{OptionName}
 use Rattle.sk_words.specs.declared.tables.OptionName.TheVariants as opt
 use Rattle.sk_words.specs.declared.topic.Topic.{Topic}
@@ -110,6 +110,7 @@ writes Normal = codes "the kernel in canonical layout"
 writes Convert = codes "the tick, TDT and UTC of one clock reading"
 writes Sample = codes "what publishing observations made from a seed comes to"
 writes Invert = codes "the last clock reading that is not after one time"
+writes Audit = codes "whether a kernel is what the options and files publish"
 writes Excerpt = codes "the part of a kernel that a range of ticks needs"
 writes Least = codes "how few lines can meet the observations, and why no fewer"
 
@@ -120,6 +121,7 @@ remarks Normal = codes "Only the grammar of the file is checked." ∷ []
 remarks Convert = codes "Writes one line: clock reading, encoded tick, TDT in seconds past J2000, UTC." ∷ codes "The UTC is - where --leap is not given." ∷ []
 remarks Sample = codes "Writes one line: sample, seed, count, new triples, the greatest difference in ps" ∷ codes "and the ticks of the last triple. It reads no file: docs/SAMPLE.md tells what is" ∷ codes "made. The slip has its default; nothing is held or dropped." ∷ []
 remarks Invert = codes "Writes one line: clock reading, encoded tick and its TDT in seconds past J2000." ∷ []
+remarks Audit = codes "Writes yes where the kernel of --new is that of --kernel and the one block that" ∷ codes "publish would add with these options and any --id. Its layout does not count." ∷ []
 remarks Excerpt = codes "Writes one block with each variable's values, as the kernels give them in this" ∷ codes "order; of the coefficients what the ticks need. Comments of blocks are left out." ∷ []
 remarks Least = codes "Writes least;RUNS, and for each run of one line its first id, its last id, and" ∷ codes "last, partition or bent:A:B:C:D, which are records that no one line meets." ∷ []
 
@@ -141,7 +143,7 @@ abbrev pub opening_rows : List ℕ
 opening_rows = codes "station " ++ (version ++ (codes ": " ++ lines opening))
 
 unfoldable pub closing : List (List ℕ)
-closing = [] ∷ codes "Status: 0 done, 2 words, 3 leap seconds kernel, 4 clock kernel, 5 observations," ∷ codes "6 not published, 7 reading, 8 writing, 9 memory, 10 time, 13 range, 14 a kernel" ∷ codes "of --over. A refusal is told on standard error; docs/REFUSALS.md tells what each" ∷ codes "means and what to do." ∷ []
+closing = [] ∷ codes "Status: 0 done, 2 words, 3 leap seconds kernel, 4 clock kernel, 5 observations," ∷ codes "6 not published, 7 reading, 8 writing, 9 memory, 10 time, 11 not accepted," ∷ codes "12 the kernel of --new, 13 range, 14 a kernel of --over. A refusal is told on" ∷ codes "standard error; docs/REFUSALS.md tells what each means and what to do." ∷ []
 
 abbrev pub program_page : List ℕ
 program_page = opening_rows ++ (flat_map command_rows all_commands ++ (codes "\nOptions\n" ++ (flat_map shown_rows all_options ++ lines closing)))

@@ -9,7 +9,7 @@ use Rattle.clap.specs.Words.{Row}
 use Rattle.sk_words.specs.KernelId.{is_calendar_time}
 use Rattle.sk_words.specs.Words.{option_text, command_text}
 use Rattle.sk_words.specs.declared.tables.Command.{Command}
-use Rattle.sk_words.specs.declared.tables.Command.TheVariants.{Publish, Residuals, Normal, Convert, Sample, Invert, Excerpt, Least}
+use Rattle.sk_words.specs.declared.tables.Command.TheVariants.{Publish, Residuals, Normal, Convert, Sample, Invert, Audit, Excerpt, Least}
 use Rattle.sk_words.specs.declared.tables.OptionName.{OptionName}
 use Rattle.sk_words.specs.declared.tables.OptionName.TheVariants as opt
 use Rattle.sk_words.specs.declared.limits.Numbers.{Numbers}
@@ -51,11 +51,12 @@ word_of Normal = codes "normal"
 word_of Convert = codes "convert"
 word_of Sample = codes "sample"
 word_of Invert = codes "invert"
+word_of Audit = codes "audit"
 word_of Excerpt = codes "excerpt"
 word_of Least = codes "least"
 
 abbrev pub all_commands : List Command
-all_commands = Publish ∷ Residuals ∷ Normal ∷ Convert ∷ Sample ∷ Invert ∷ Excerpt ∷ Least ∷ []
+all_commands = Publish ∷ Residuals ∷ Normal ∷ Convert ∷ Sample ∷ Invert ∷ Audit ∷ Excerpt ∷ Least ∷ []
 
 -- the options that a command needs, in the order of the option table
 abbrev pub needs : Command → List OptionName
@@ -65,6 +66,7 @@ needs Normal = opt.Kernel ∷ []
 needs Convert = opt.Kernel ∷ opt.Sc ∷ opt.Clock ∷ []
 needs Sample = opt.Seed ∷ opt.Count ∷ []
 needs Invert = opt.Kernel ∷ opt.Sc ∷ opt.Time ∷ []
+needs Audit = opt.Kernel ∷ opt.Obs ∷ opt.Sc ∷ opt.New ∷ []
 needs Excerpt = opt.Kernel ∷ opt.Sc ∷ opt.From ∷ opt.To ∷ []
 needs Least = opt.Kernel ∷ opt.Obs ∷ opt.Sc ∷ []
 
@@ -76,6 +78,7 @@ uses Normal = opt.Kernel ∷ []
 uses Convert = opt.Leap ∷ opt.Kernel ∷ opt.Sc ∷ opt.Clock ∷ []
 uses Sample = opt.TolNs ∷ opt.RateDecimals ∷ opt.BandPpm ∷ opt.Seed ∷ opt.Count ∷ []
 uses Invert = opt.Leap ∷ opt.Kernel ∷ opt.Sc ∷ opt.Time ∷ []
+uses Audit = opt.Leap ∷ opt.Kernel ∷ opt.Obs ∷ opt.Sc ∷ opt.TolNs ∷ opt.RateDecimals ∷ opt.BandPpm ∷ opt.SlipNs ∷ opt.Hold ∷ opt.Reject ∷ opt.New ∷ []
 uses Excerpt = opt.Kernel ∷ opt.Sc ∷ opt.Over ∷ opt.From ∷ opt.To ∷ []
 uses Least = opt.Leap ∷ opt.Kernel ∷ opt.Obs ∷ opt.Sc ∷ opt.TolNs ∷ []
 

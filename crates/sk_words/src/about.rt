@@ -88,6 +88,11 @@ static INVERT_REMARKS: [&str; 1] = [
     "Writes one line: clock reading, encoded tick and its TDT in seconds past J2000.",
 ];
 
+static AUDIT_REMARKS: [&str; 2] = [
+    "Writes yes where the kernel of --new is that of --kernel and the one block that",
+    "publish would add with these options and any --id. Its layout does not count.",
+];
+
 static EXCERPT_REMARKS: [&str; 2] = [
     "Writes one block with each variable's values, as the kernels give them in this",
     "order; of the coefficients what the ticks need. Comments of blocks are left out.",
@@ -110,6 +115,7 @@ impl Command {
             Command::Convert => "the tick, TDT and UTC of one clock reading",
             Command::Sample => "what publishing observations made from a seed comes to",
             Command::Invert => "the last clock reading that is not after one time",
+            Command::Audit => "whether a kernel is what the options and files publish",
             Command::Excerpt => "the part of a kernel that a range of ticks needs",
             Command::Least => "how few lines can meet the observations, and why no fewer",
         }
@@ -126,6 +132,7 @@ impl Command {
             Command::Convert => CONVERT_REMARKS.as_slice(),
             Command::Sample => SAMPLE_REMARKS.as_slice(),
             Command::Invert => INVERT_REMARKS.as_slice(),
+            Command::Audit => AUDIT_REMARKS.as_slice(),
             Command::Excerpt => EXCERPT_REMARKS.as_slice(),
             Command::Least => LEAST_REMARKS.as_slice(),
         }

@@ -27,9 +27,9 @@ static OPENING: [&str; 6] = [
 static CLOSING: [&str; 5] = [
     "",
     "Status: 0 done, 2 words, 3 leap seconds kernel, 4 clock kernel, 5 observations,",
-    "6 not published, 7 reading, 8 writing, 9 memory, 10 time, 13 range, 14 a kernel",
-    "of --over. A refusal is told on standard error; docs/REFUSALS.md tells what each",
-    "means and what to do.",
+    "6 not published, 7 reading, 8 writing, 9 memory, 10 time, 11 not accepted,",
+    "12 the kernel of --new, 13 range, 14 a kernel of --over. A refusal is told on",
+    "standard error; docs/REFUSALS.md tells what each means and what to do.",
 ];
 
 #[tactic(auto, unfolding(crate::specs::Help::opening))]

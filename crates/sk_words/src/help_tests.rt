@@ -29,7 +29,7 @@ fn three_words_ask_for_the_whole_help(rt: HostRuntime) -> Result<(), Fail> {
         let other = asked(alloc, words.as_slice())?;
         assert!(rt; other.as_slice() == first.as_slice(), "{word}");
     }
-    let parts: [&str; 8] = [
+    let parts: [&str; 10] = [
         "station 0.9.0: keeps a spacecraft clock kernel (NAIF SCLK type 1), exactly\n\nusage: ",
         "\n  publish             new triples, with the residual table as comments\n",
         "\n                      needs --kernel --obs --sc\n",
@@ -37,13 +37,13 @@ fn three_words_ask_for_the_whole_help(rt: HostRuntime) -> Result<(), Fail> {
         "\n  --tol-ns=N          how far an observation may lie from the line, ns\n",
         "\n                      1 to 60000000000; 1000000 where it is not given\n",
         "\n  --sc=N              number of the spacecraft, with NAIF's minus sign or not\n                      1 to 999999999\n",
+        "\n  audit               whether a kernel is what the options and files publish\n                      needs --kernel --obs --sc --new\n",
+        "\n  --new=FILE          clock kernel that is to be judged\n",
         "\n\nStatus: 0 done, ",
     ];
     for part in parts {
         assert!(rt; holds(first.as_slice(), part.as_bytes()), "{part}");
     }
-    // Options of no command are not shown.
-    assert!(rt; !holds(first.as_slice(), b"--new"));
     Ok(())
 }
 

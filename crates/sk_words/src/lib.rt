@@ -2,6 +2,8 @@
 #![tactic(auto)]
 
 mod about;
+#[cfg(test)]
+mod audit_tests;
 mod fault;
 mod given;
 #[cfg(test)]

@@ -38,17 +38,19 @@ pub enum Command {
     Convert,
     Sample,
     Invert,
+    Audit,
     Excerpt,
     Least,
 }
 
-static COMMANDS: [Command; 8] = [
+static COMMANDS: [Command; 9] = [
     Command::Publish,
     Command::Residuals,
     Command::Normal,
     Command::Convert,
     Command::Sample,
     Command::Invert,
+    Command::Audit,
     Command::Excerpt,
     Command::Least,
 ];
@@ -132,6 +134,27 @@ static INVERT_USES: [OptionName; 4] = [
     OptionName::Time,
 ];
 
+static AUDIT_NEEDS: [OptionName; 4] = [
+    OptionName::Kernel,
+    OptionName::Obs,
+    OptionName::Sc,
+    OptionName::New,
+];
+
+static AUDIT_USES: [OptionName; 11] = [
+    OptionName::Leap,
+    OptionName::Kernel,
+    OptionName::Obs,
+    OptionName::Sc,
+    OptionName::TolNs,
+    OptionName::RateDecimals,
+    OptionName::BandPpm,
+    OptionName::SlipNs,
+    OptionName::Hold,
+    OptionName::Reject,
+    OptionName::New,
+];
+
 static EXCERPT_NEEDS: [OptionName; 4] = [
     OptionName::Kernel,
     OptionName::Sc,
@@ -212,6 +235,7 @@ impl Command {
             Command::Convert => "convert",
             Command::Sample => "sample",
             Command::Invert => "invert",
+            Command::Audit => "audit",
             Command::Excerpt => "excerpt",
             Command::Least => "least",
         }
@@ -228,6 +252,7 @@ impl Command {
             Command::Convert => CONVERT_NEEDS.as_slice(),
             Command::Sample => SAMPLE_NEEDS.as_slice(),
             Command::Invert => INVERT_NEEDS.as_slice(),
+            Command::Audit => AUDIT_NEEDS.as_slice(),
             Command::Excerpt => EXCERPT_NEEDS.as_slice(),
             Command::Least => LEAST_NEEDS.as_slice(),
         }
@@ -244,6 +269,7 @@ impl Command {
             Command::Convert => CONVERT_USES.as_slice(),
             Command::Sample => SAMPLE_USES.as_slice(),
             Command::Invert => INVERT_USES.as_slice(),
+            Command::Audit => AUDIT_USES.as_slice(),
             Command::Excerpt => EXCERPT_USES.as_slice(),
             Command::Least => LEAST_USES.as_slice(),
         }

@@ -2,9 +2,9 @@
 use Rattle.std.proofs.Common.{◌≡◌, ℕ, ℤ, pos, ◌*ℤ◌, ◌^◌, ◌+◌, ◌++◌, List, Option, Some, None, Result, Ok, Err, [], ◌∷◌, sym, subst, inl, inr}
 use Rattle.std.specs.Prelude.{codes, unwrap_or, IsSomeAnd}
 use Rattle.sk_status.specs.declared.status.Status.{Status}
-use Rattle.sk_status.specs.declared.status.Status.TheVariants.{Done, WordsRefused, LeapRefused, KernelRefused, ObservationRefused, NotPublished, WriteFault, NoMemory, TimeRefused, ExcerptRefused}
+use Rattle.sk_status.specs.declared.status.Status.TheVariants.{Done, WordsRefused, LeapRefused, KernelRefused, ObservationRefused, NotPublished, WriteFault, NoMemory, TimeRefused, AuditNo, ExcerptRefused}
 use Rattle.sk_words.specs.declared.tables.Command.{Command}
-use Rattle.sk_words.specs.declared.tables.Command.TheVariants.{Publish, Residuals, Normal, Convert, Sample, Invert, Excerpt, Least}
+use Rattle.sk_words.specs.declared.tables.Command.TheVariants.{Publish, Residuals, Normal, Convert, Sample, Invert, Audit, Excerpt, Least}
 use Rattle.sk_status.specs.declared.status.FileKind.{FileKind}
 use Rattle.sk_status.specs.declared.status.FileKind.TheVariants.{Document, Observations}
 use Rattle.sk_status.specs.declared.status.DocumentKind.{DocumentKind}
@@ -55,21 +55,21 @@ use Rattle.sk_words.specs.Asked.{WordsAsk}
 use Rattle.sk_words.specs.Request.{Options, text_or, number_or}
 use Rattle.sk_outcome.specs.Files as files
 use Rattle.sk_outcome.specs.Seen.{Source}
-use Rattle.sk_outcome.specs.Files.{KernelRead, OpenedRead, InputsRead, reads, judged, refused_by, document_too_long, too_long, opened_read, inputs_read, sc_of}
+use Rattle.sk_outcome.specs.Files.{KernelRead, OpenedRead, InputsRead, AuditRead, reads, judged, refused_by, document_too_long, too_long, opened_read, inputs_read, candidate_document, audit_read, sc_of}
 use Rattle.sk_inverse.specs.Inverse.{IsTickOf, inverse_checks}
 use Rattle.sk_sample.specs.Sample.{kernel_text, spacecraft, observations_text}
 use Rattle.sk_inverse.specs.declared.fault.InverseFault.{InverseFault}
 use Rattle.sk_inverse.specs.declared.fault.InverseFault.TheVariants as inverse_fault
-use Rattle.sk_outcome.specs.Outcome.{requested, commanded, told_or, outcome, outcome_of, publish, publish_of, chain_of, residuals, residuals_of, normal, normal_of, convert, convert_of, converted, sample, sample_of, sampled, invert, invert_of, said, ticked, told, TimeOf, status_of_time, clock_tick, TickOf, covered, tabled, all_covered, status_of_report, least, least_of, ShortestCover, excerpt, excerpt_of, cut_out}
+use Rattle.sk_outcome.specs.Outcome.{requested, commanded, told_or, outcome, outcome_of, publish, publish_of, chain_of, residuals, residuals_of, normal, normal_of, convert, convert_of, converted, sample, sample_of, sampled, invert, invert_of, said, ticked, told, TimeOf, status_of_time, clock_tick, TickOf, covered, tabled, all_covered, status_of_report, audit, audit_of, audited, accepted, VerdictOf, least, least_of, ShortestCover, excerpt, excerpt_of, cut_out}
 use Rattle.sk_excerpt.specs.Excerpt.{joined, excerpt_checks, IsExcerpt}
 use Rattle.sk_excerpt.specs.declared.fault.ExcerptFault.{ExcerptFault}
 use Rattle.sk_outcome.specs.Joined.{over_documents, joined_behind, named_over, joined_kernel}
 use Rattle.sk_outcome.specs.Publishing.{after_chain, after_rows}
-use Rattle.sk_outcome.specs.Output.{settings_of, plain_table, new_kernel, published_doc, tick_fields, time_by, line_of, least_text}
+use Rattle.sk_outcome.specs.Output.{settings_of, plain_table, new_kernel, published_doc, tick_fields, time_by, line_of, yes_line, least_text}
 use Rattle.sk_outcome.specs.Sample.{made_kernel, made_observations, made_inputs, sample_line, seed_of, count_of}
 use Rattle.sk_least.specs.declared.stretch.Stretch.{Stretch}
 use Rattle.sk_outcome.specs.Time.{IsUtcWord}
-use Rattle.sk_outcome.proofs.Follows.{kernel_after, rows_after}
+use Rattle.sk_outcome.proofs.Follows.{kernel_after, rows_after, candidate_after}
 use Rattle.sk_outcome.specs.Ending.{Ends}
 use Rattle.sk_status.specs.Written.{Written, IsUntouched}
 use Rattle.sk_status.specs.Notes.{CarriesNoMemory}
@@ -368,6 +368,19 @@ always_invert source options =
     (always_judged (Judges (inverse_checks opened.kernel.triples (time *ℤ pos (10 ^ 6))) (IsTickOf opened.kernel.triples (time *ℤ pos (10 ^ 6)))) status_of_time (λ fault h. ticked_stands fault))
     (always_told opened.kernel)))
 
+always_audit_read : (source : Source) (options : Options) → Always (audit_read source options)
+always_audit_read source options =
+    always_then (inputs_read source options) (candidate_after options source) (always_inputs source options)
+    (λ inputs. always_then (candidate_document source options) (λ candidate. gives {A = AuditRead} (record { inputs = inputs; candidate = candidate }))
+    (always_document source New (text_or opt.New options))
+    (λ candidate. always_gives {A = AuditRead} (record { inputs = inputs; candidate = candidate })))
+
+always_audit : (source : Source) (options : Options) → Always (audit source options)
+always_audit source options =
+    always_then (audit_read source options) (audit_of options) (always_audit_read source options)
+    (λ read. always_then (accepted options read) (λ passed. gives yes_line) (always_judged (VerdictOf (audited options read)) AuditNo (λ fault h. standing))
+    (λ passed. always_gives yes_line))
+
 always_least : (source : Source) (options : Options) → Always (least source options)
 always_least source options =
     always_then (inputs_read source options) (least_of options) (always_inputs source options)
@@ -408,6 +421,7 @@ always_command Normal source options = always_normal source options
 always_command Convert source options = always_convert source options
 always_command Sample source options = always_sample source options
 always_command Invert source options = always_invert source options
+always_command Audit source options = always_audit source options
 always_command Excerpt source options = always_excerpt source options
 always_command Least source options = always_least source options
 

@@ -5,7 +5,7 @@ ghost use Rattle.sk_publishing.specs.Row.{AreRows};
 ghost use Rattle.sk_outcome.specs.Stage.{MayAnswer};
 ghost use Rattle.sk_words.specs.Asked.{options_in, NeedsNumber};
 ghost use Rattle.sk_outcome.specs.Seen.{seen_by, Stays};
-ghost use Rattle.sk_outcome.specs.Files.{leap_named as named_stage, leap_file as leap_stage, kernel_document as document_stage, kernel_file as kernel_stage, observation_file as observation_stage, HasFew};
+ghost use Rattle.sk_outcome.specs.Files.{leap_named as named_stage, leap_file as leap_stage, kernel_document as document_stage, kernel_file as kernel_stage, observation_file as observation_stage, candidate_document as candidate_stage, HasFew};
 
 use crate::reading::{document, read_file};
 use sk_commands::{Kernel, Opened, kernel_meaning, leap_meaning, observed};
@@ -83,4 +83,17 @@ pub fn observation_file<D: Depot>(
     let name = request.text_or_empty(OptionName::Obs);
     let bytes = read_file(alloc, depot, FileKind::Observations, name)?;
     observed(alloc, bytes.as_slice(), &opened.kernel.clock, &opened.leap)
+}
+
+/// The document of the kernel that is to be judged.
+pub fn candidate_document<D: Depot>(
+    alloc: Global,
+    depot: &mut D,
+    request: &Request,
+) -> Result<Doc, Status>
+    ensures stays { Stays D.holds D.faults depot.old depot.new }
+    ensures stage { MayAnswer (λ d. d) (candidate_stage (seen_by D.holds D.given D.faults depot.old depot.new) (options_in request.now)) result }
+{
+    let name = request.text_or_empty(OptionName::New);
+    document(alloc, depot, DocumentKind::New, name)
 }

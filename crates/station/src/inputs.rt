@@ -2,10 +2,10 @@
 ghost use Rattle.sk_words.specs.Asked.{options_in, NeedsNumber};
 ghost use Rattle.sk_outcome.specs.Stage.{MayAnswer};
 ghost use Rattle.sk_outcome.specs.Seen.{seen_by, Stays};
-ghost use Rattle.sk_outcome.specs.Files.{opened_read, inputs_read};
+ghost use Rattle.sk_outcome.specs.Files.{opened_read, inputs_read, audit_read};
 
-use crate::files::{kernel_file, leap_file, observation_file};
-use sk_commands::{Inputs, Opened};
+use crate::files::{candidate_document, kernel_file, leap_file, observation_file};
+use sk_commands::{AuditInputs, Inputs, Opened};
 use sk_edge::Depot;
 use sk_status::Status;
 use sk_words::Request;
@@ -42,4 +42,19 @@ pub fn read_inputs<D: Depot>(
         kernel: opened.kernel,
         observations,
     })
+}
+
+/// Reads these, and then the kernel that is to be judged by them.
+pub fn read_audit<D: Depot>(
+    alloc: Global,
+    depot: &mut D,
+    request: &Request,
+) -> Result<AuditInputs, Status>
+    requires { NeedsNumber request.now.command }
+    ensures stays { Stays D.holds D.faults depot.old depot.new }
+    ensures stage { MayAnswer (λ a. a) (audit_read (seen_by D.holds D.given D.faults depot.old depot.new) (options_in request.now)) result }
+{
+    let inputs = read_inputs(alloc, depot, request)?;
+    let candidate = candidate_document(alloc, depot, request)?;
+    Ok(AuditInputs { inputs, candidate })
 }

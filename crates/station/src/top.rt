@@ -11,6 +11,8 @@ ghost use Rattle.sk_outcome.specs.Stage.{MayAnswer, gives};
 ghost use Rattle.sk_outcome.specs.Seen.{seen_by, Stays};
 ghost use Rattle.sk_outcome.specs.Outcome.{commanded, outcome, outcome_of, requested as requested_by};
 ghost use Rattle.sk_outcome.specs.Ending.{Ends, HasEnded};
+ghost use Rattle.sk_outcome.specs.Output.{yes_line};
+ghost use Rattle.sk_headline.specs.Accepted.{AreHeldToJudge, SpellsPublished};
 ghost use Rattle.sk_headline.specs.Headline.{AreHeld, IsPublished};
 ghost use Rattle.sk_status.specs.Written.{written_by};
 ghost use Rattle.sk_advice.specs.Told.{IsTold};
@@ -18,11 +20,12 @@ ghost use Rattle.sk_status.specs.Notes.{CarriesNoMemory};
 ghost use Rattle.sk_status.specs.declared.status.Status.{Status as Ended};
 
 use crate::files::kernel_document;
-use crate::inputs::{read_inputs, read_opened};
+use crate::inputs::{read_audit, read_inputs, read_opened};
 use crate::made::made_inputs;
 use crate::over::joined_kernel;
 use sk_advice::write_told;
 use sk_checks::NoMemory;
+use sk_commands::audit::audit;
 use sk_commands::convert::convert;
 use sk_commands::excerpt::excerpt;
 use sk_commands::invert::invert;
@@ -54,6 +57,7 @@ fn command_text<D: Depot>(
         Command::Convert => convert(alloc, request, read_opened(alloc, depot, request)?),
         Command::Sample => sample(alloc, request, made_inputs(alloc, request)?),
         Command::Invert => invert(alloc, request, read_opened(alloc, depot, request)?),
+        Command::Audit => audit(alloc, request, read_audit(alloc, depot, request)?),
         Command::Excerpt => excerpt(alloc, request, joined_kernel(alloc, depot, request)?),
         Command::Least => least(alloc, request, read_inputs(alloc, depot, request)?),
     }
@@ -163,6 +167,25 @@ pub fn run<D: Depot, S: Sink, N: Sink>(
         → AreHeld (D.holds depot.old) request.options leap_bytes kernel_bytes observation_bytes
         → IsPublished request.options leap_bytes kernel_bytes observation_bytes bytes
         → ((result ≡ Status.Done) × Appends (S.written out.old) (S.written out.new) bytes) ⊎ (result ≡ Status.NoMemory) }
+
+    // An audit that ends with status 0 writes the line yes, and the new file is a text, in any layout, of the kernel that its
+    // options, with some kernel ID or none, publish of its files.
+    ensures accepted { (request : Asked) (leap_bytes : Option (List ℕ)) (kernel_bytes observation_bytes bytes : List ℕ)
+        → requested_by (codes "station" ∷ map string_bytes words.now) (Ok request)
+        → request.command ≡ Command.Audit → result ≡ Status.Done
+        → AreHeldToJudge (D.holds depot.old) request.options leap_bytes kernel_bytes observation_bytes bytes
+        → Appends (S.written out.old) (S.written out.new) yes_line
+        × SpellsPublished request.options leap_bytes kernel_bytes observation_bytes bytes }
+
+    // Where no count rose, it ends so for each such text, unless memory runs out: what is published is never refused.
+    ensures accepts { (request : Asked) (leap_bytes : Option (List ℕ)) (kernel_bytes observation_bytes bytes : List ℕ)
+        → requested_by (codes "station" ∷ map string_bytes words.now) (Ok request)
+        → request.command ≡ Command.Audit
+        → ((name : List ℕ) → ¬ Rose (D.faults depot.old name) (D.faults depot.new name))
+        → (¬ Rose (S.faults out.old) (S.faults out.new))
+        → AreHeldToJudge (D.holds depot.old) request.options leap_bytes kernel_bytes observation_bytes bytes
+        → SpellsPublished request.options leap_bytes kernel_bytes observation_bytes bytes
+        → ((result ≡ Status.Done) × Appends (S.written out.old) (S.written out.new) yes_line) ⊎ (result ≡ Status.NoMemory) }
 
     // Files hold what they held, and no count falls: a run may follow another over the same depot.
     ensures stays { Stays D.holds D.faults depot.old depot.new }

@@ -4,11 +4,11 @@ use Rattle.sk_words.specs.Asked.{options_in}
 use Rattle.sk_words.specs.Request.{Options}
 use Rattle.sk_outcome.specs.Stage.{MayAnswer}
 use Rattle.sk_outcome.specs.Seen.{Source, seen_by}
-use Rattle.sk_outcome.specs.Files.{opened_read, inputs_read}
-use Rattle.sk_outcome.specs.Outcome.{outcome_of, publish_of, residuals_of, convert_of, sample_of, invert_of, least_of, excerpt_of}
+use Rattle.sk_outcome.specs.Files.{opened_read, inputs_read, audit_read}
+use Rattle.sk_outcome.specs.Outcome.{outcome_of, publish_of, residuals_of, convert_of, sample_of, invert_of, audit_of, least_of, excerpt_of}
 use Rattle.sk_outcome.specs.Sample.{made_inputs}
 use Rattle.sk_outcome.specs.Joined.{joined_kernel}
-use Rattle.sk_outcome.proofs.Moves.{may_then}
+use Rattle.sk_outcome.proofs.Moves.{may_then, may_end_as, handed_on}
 use Rattle.station.proofs.top.command_text.Goals as goal
 
 pub returns-in_ok-read_inputs-in-Publish-clause-stage : goal.returns-in_ok-read_inputs-in-Publish-clause-stage
@@ -66,3 +66,21 @@ returns-in_ok-joined_kernel-in-Excerpt-clause-stage g c =
     let source : Source = seen_by depot.holds depot.given depot.faults c.args.depot.now c.joined_kernel.new.depot in
     subst (λ (command : Command). MayAnswer (λ (v : Vec ℕ Global). v.items) (outcome_of command source options) c.excerpt.result) c.in-Excerpt.ensures
     (may_then (λ (v : Vec ℕ Global). v.items) (joined_kernel source options) (excerpt_of options) c.in_ok-joined_kernel-in-Excerpt.field-0 c.excerpt.result c.in_ok-joined_kernel-in-Excerpt.ensures.stage c.excerpt.ensures)
+
+pub returns-in_ok-read_audit-in-Audit-clause-stage : goal.returns-in_ok-read_audit-in-Audit-clause-stage
+returns-in_ok-read_audit-in-Audit-clause-stage g c =
+    let depot = g.D.Depot in
+    let options : Options = options_in c.args.request.now in
+    let source : Source = seen_by depot.holds depot.given depot.faults c.args.depot.now c.read_audit.new.depot in
+    subst (λ (command : Command). MayAnswer (λ (v : Vec ℕ Global). v.items) (outcome_of command source options) c.audit.result) c.in-Audit.ensures
+    (may_then (λ (v : Vec ℕ Global). v.items) (audit_read source options) (audit_of options) c.in_ok-read_audit-in-Audit.field-0 c.audit.result c.in_ok-read_audit-in-Audit.ensures.stage c.audit.ensures)
+
+pub returns-in_err-read_audit-in-Audit-clause-stage : goal.returns-in_err-read_audit-in-Audit-clause-stage
+returns-in_err-read_audit-in-Audit-clause-stage g c =
+    let depot = g.D.Depot in
+    let options : Options = options_in c.args.request.now in
+    let source : Source = seen_by depot.holds depot.given depot.faults c.args.depot.now c.read_audit.new.depot in
+    subst (λ (command : Command). MayAnswer (λ (v : Vec ℕ Global). v.items) (outcome_of command source options) c.from_residual-in_err-read_audit-in-Audit.result) c.in-Audit.ensures
+    (may_end_as (λ a. a) (λ (v : Vec ℕ Global). v.items) (audit_read source options) (audit_of options) c.read_audit.result c.from_residual-in_err-read_audit-in-Audit.result
+    c.in_err-read_audit-in-Audit.field-0.0 c.in_err-read_audit-in-Audit.was
+    (handed_on c.from_residual-in_err-read_audit-in-Audit.result c.in_err-read_audit-in-Audit.field-0.0 c.from_residual-in_err-read_audit-in-Audit.ensures.1) c.read_audit.ensures.stage)
