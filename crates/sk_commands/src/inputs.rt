@@ -51,9 +51,12 @@ pub struct AuditInputs {
 }
 
 impl Model for AuditInputs {
+    ghost use Rattle.std.specs.Prelude.{◌≤◌, length};
     ghost use Rattle.sk_outcome.specs.Files.{AuditRead};
 
     ghost Value = { AuditRead };
 
     ghost view = { λ a. record { inputs = a.inputs; candidate = a.candidate } };
+
+    ghost invariant = { λ a. length a.inputs.observations ≤ 100_000 };
 }

@@ -1,5 +1,5 @@
 //! What documents and observation files mean.
-ghost use Rattle.std.specs.Prelude.{◌≡◌, IfOk};
+ghost use Rattle.std.specs.Prelude.{◌≡◌, ◌≤◌, IfOk, length};
 ghost use Rattle.std.specs.Int.{IsInRange};
 ghost use Rattle.sk_grammar.specs.Variables.{IsCounted, items_of, variables_of};
 ghost use Rattle.sk_clock.specs.Clock.{total};
@@ -147,6 +147,7 @@ pub fn observed(
 ) -> Result<List<Observation>, Status>
     ensures stage { MayAnswer (λ o. o) (observed_stage bytes.now clock.now leap.now) result }
     ensures rows { IfOk result (AreRows (total clock.now)) }
+    ensures few { IfOk result (λ o. length o ≤ 100_000) }
 {
     match read_observations(alloc, bytes, clock, leap) {
         Ok(observations) => Ok(observations),

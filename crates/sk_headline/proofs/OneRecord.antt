@@ -20,9 +20,9 @@ use Rattle.sk_leap.specs.Leap.{utc_checks}
 use Rattle.sk_obs.specs.declared.fault.ClockWord.TheVariants.{Text, Cuc}
 use Rattle.sk_obs.specs.declared.fault.CodeFault.TheVariants as code
 use Rattle.sk_obs.specs.declared.fault.ObsFault.{ObsFault}
-use Rattle.sk_obs.specs.declared.fault.ObsFault.TheVariants.{ClockRefused, CodeRefused, UtcRefused, BadDelay, TimeRange, OutOfOrder}
+use Rattle.sk_obs.specs.declared.fault.ObsFault.TheVariants.{ClockRefused, CodeRefused, UtcRefused, BadDelay, TimeRange, OutOfOrder, Header}
 use Rattle.sk_obs.specs.Words.{ClockForm, TickDigits, CodeBytes, ClockString, clock_form, form_checks, word_checks, IsHexOf, hex_part, IsCodeWord, TimeWord, TdtNumber, UtcCode, CucHex, CdsHex, OtherWord, time_word, time_checks, IsCdsHex, IsUtcOf}
-use Rattle.sk_obs.specs.File.{records_of, file_checks, record_checks, own_checks, AreObservations, IsRecordOf, IsObserved, IsDelay, clock_of, time_of, delay_of, IsNotAbove}
+use Rattle.sk_obs.specs.File.{records_of, file_checks, header_causes, IsNoHeader, record_checks, own_checks, AreObservations, IsRecordOf, IsObserved, IsDelay, clock_of, time_of, delay_of, IsNotAbove}
 use Rattle.sk_obs.proofs.Laws.{IsHexOf-one, IsCodeWord-named, IsCodeWord-code, IsClockWord-one, SaysTime-one, SpellsUtc-one, utc_checks-same, cds_utc}
 use Rattle.sk_outcome.specs.Files.{ObservationsOf}
 use Rattle.sk_headline.proofs.Determined.{IsOne, judges_one, single_append, single_each, zip_one}
@@ -116,9 +116,15 @@ record_single clock pairs before n fields =
     single_append (own_checks clock pairs n fields) (IsSomeAnd before (λ previous. IsNotAbove clock previous fields) ⇒ OutOfOrder n ∷ [])
     (plain-single _ _, (plain-single _ _, (plain-single _ _, (carries, observed)))) (plain-single _ _, tt)
 
+header_single : (first : List (List ℕ)) (rows : List (List (List ℕ))) → AreSingle (header_causes first rows)
+header_single first rows =
+    (plain-single _ _, (plain-single _ _, (plain-single _ _, (plain-single _ _, (plain-single _ _, (plain-single _ _, (plain-single _ _, (plain-single _ _, (plain-single _ _, (plain-single _ _, (plain-single _ _, tt)))))))))))
+
 file_single : (clock : ClockView) (pairs : List LeapPair) (rows : List (List (List ℕ))) → AreSingle (file_checks clock pairs rows)
 file_single clock pairs [] = (plain-single _ _, tt)
-file_single clock pairs (header ∷ rows) = (plain-single _ _, single_each None 2 (record_checks clock pairs) rows (record_single clock pairs))
+file_single clock pairs (header ∷ rows) =
+    let no_header = carried-single (IsNoHeader header rows) Header (λ a b p q. FirstRefuses-one (header_causes header rows) a b (header_single header rows) p.1 q.1) in
+    (no_header, single_each None 2 (record_checks clock pairs) rows (record_single clock pairs))
 
 observed_one : (pairs : List LeapPair) (fields : List (List ℕ)) (a b : ℤ) → IsObserved pairs fields a → IsObserved pairs fields b → a ≡ b
 observed_one pairs fields a b h k =

@@ -1,5 +1,5 @@
 //! The files that a command names.
-ghost use Rattle.std.specs.Prelude.{◌≡◌, List, ℕ, Some, IfOk};
+ghost use Rattle.std.specs.Prelude.{◌≡◌, ◌≤◌, List, ℕ, Some, IfOk, length};
 ghost use Rattle.sk_clock.specs.Clock.{total};
 ghost use Rattle.sk_publishing.specs.Row.{AreRows};
 ghost use Rattle.sk_outcome.specs.Stage.{MayAnswer};
@@ -79,6 +79,7 @@ pub fn observation_file<D: Depot>(
     ensures stays { Stays D.holds D.faults depot.old depot.new }
     ensures stage { MayAnswer (λ o. o) (observation_stage (seen_by D.holds D.given D.faults depot.old depot.new) (options_in request.now) opened.now) result }
     ensures rows { IfOk result (AreRows (total opened.now.kernel.clock)) }
+    ensures few { IfOk result (λ o. length o ≤ 100_000) }
 {
     let name = request.text_or_empty(OptionName::Obs);
     let bytes = read_file(alloc, depot, FileKind::Observations, name)?;

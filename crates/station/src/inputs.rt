@@ -1,4 +1,5 @@
 //! The files that a command reads before it judges.
+ghost use Rattle.std.specs.Prelude.{◌≤◌, IfOk, length};
 ghost use Rattle.sk_words.specs.Asked.{options_in, NeedsNumber};
 ghost use Rattle.sk_outcome.specs.Stage.{MayAnswer};
 ghost use Rattle.sk_outcome.specs.Seen.{seen_by, Stays};
@@ -35,6 +36,7 @@ pub fn read_inputs<D: Depot>(
     requires { NeedsNumber request.now.command }
     ensures stays { Stays D.holds D.faults depot.old depot.new }
     ensures stage { MayAnswer (λ i. i) (inputs_read (seen_by D.holds D.given D.faults depot.old depot.new) (options_in request.now)) result }
+    ensures few { IfOk result (λ i. length i.observations ≤ 100_000) }
 {
     let opened = read_opened(alloc, depot, request)?;
     let observations = observation_file(alloc, depot, request, &opened)?;
