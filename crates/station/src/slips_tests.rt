@@ -5,7 +5,7 @@ use std::alloc::{AllocError, Global};
 use std::test::Fail;
 
 /// Words that a newcomer may write, the line that refuses them, and the cure that is told behind it.
-const WORD_SLIPS: [(&str, &str, &str); 24] = [
+const WORD_SLIPS: [(&str, &str, &str); 26] = [
     (
         "",
         "refused;2;NotTaken\n",
@@ -50,7 +50,7 @@ const WORD_SLIPS: [(&str, &str, &str); 24] = [
     (
         "publis",
         "refused;2;UnknownCommand\n",
-        "the commands are publish residuals normal convert sample invert excerpt least",
+        "the commands are publish residuals normal convert sample invert audit excerpt least",
     ),
     (
         "Publish",
@@ -61,6 +61,16 @@ const WORD_SLIPS: [(&str, &str, &str); 24] = [
         "residuals|--kernel=k|--sc=99",
         "refused;2;NeedOption;obs\n",
         "--obs=FILE: observations, csv with the header id,clock,time,delay",
+    ),
+    (
+        "audit|--kernel=k|--obs=o|--sc=99",
+        "refused;2;NeedOption;new\n",
+        "--new=FILE: clock kernel that is to be judged",
+    ),
+    (
+        "audit|--kernel=k|--obs=o|--sc=99|--new=missing",
+        "refused;7;New\n",
+        "missing (--new):",
     ),
     (
         "normal|--kernel=k|--tol-ns=1e6",
