@@ -241,7 +241,7 @@ record_said clock pairs before n fields =
 
 file_said : (clock : ClockView) (pairs : List LeapPair) (rows : List (List (List ℕ))) → AllSay RecordStands (file_checks clock pairs rows)
 file_said clock pairs [] = (standing, tt)
-file_said clock pairs (header ∷ rows) = (standing, say_each RecordStands None 2 (record_checks clock pairs) rows (record_said clock pairs))
+file_said clock pairs (header ∷ rows) = ((λ inner. standing), say_each RecordStands None 2 (record_checks clock pairs) rows (record_said clock pairs))
 
 always_observations : (source : Source) (options : Options) (opened : OpenedRead) → Always (files.observation_file source options opened)
 always_observations source options opened =
