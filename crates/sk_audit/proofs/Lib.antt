@@ -24,3 +24,7 @@ pub mod Marking
 pub mod Deciding
 pub mod Differing
 pub mod Lining
+pub mod Shared
+pub mod Passing
+pub mod Stepping
+pub mod Evaluating
