@@ -1,10 +1,10 @@
 -- What is asked before the first new triple.
 use Rattle.std.proofs.Common.{◌≡◌, ◌≢◌, ◌⊎◌, ℕ, ◌+◌, ◌-◌, ◌<◌, List, [], ◌∷◌, ◌++◌, length, take, sym, ap, subst, ◌∙◌, arith, get_or}
 use Rattle.std.proofs.lemmas.List.{take_more, take_all}
-use Rattle.std.specs.Prelude.{ℤ, pos, ◌*ℤ◌, ◌^◌, unwrap_or}
+use Rattle.std.specs.Prelude.{ℤ, unwrap_or}
 use Rattle.std.specs.List.{AllByRecursion}
 use Rattle.sk_publishing.specs.Row.{RowView}
-use Rattle.sk_clock.specs.Clock.{ClockView, ticks_per, total, partition_at}
+use Rattle.sk_clock.specs.Clock.{ClockView, total, partition_at}
 use Rattle.sk_line.specs.Triple.{TripleView}
 use Rattle.sk_line.specs.Line.{FallsOver}
 use Rattle.sk_triples.specs.Kernel.{TriplesView, IsTriple}

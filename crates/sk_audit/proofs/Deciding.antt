@@ -1,5 +1,5 @@
 -- The first fault that holds, and that none does.
-use Rattle.std.proofs.Common.{◌≡◌, ◌≢◌, ◌⊎◌, ℕ, ◌+◌, ◌-◌, ◌<◌, List, [], ◌∷◌, ◌++◌, length, length-append, map, refl, sym, ap, subst, inl, inr, ◌∙◌, arith, Option, None, Some, append-nil}
+use Rattle.std.proofs.Common.{◌≡◌, ◌≢◌, ℕ, ◌-◌, List, [], ◌∷◌, ◌++◌, length, length-append, map, refl, sym, ap, subst, inl, inr, ◌∙◌, arith, Option, None, Some, append-nil}
 use Rattle.std.specs.Prelude.{slice_get, flat_map, count_by, not}
 use Rattle.sk_line.specs.Triple.{TripleView}
 use Rattle.sk_line.specs.Line.{FallsOver, covering}
@@ -15,10 +15,11 @@ use Rattle.sk_publishing.specs.Chain.{SegmentView, new_triples}
 use Rattle.sk_publishing.specs.Kept.{is_new, IsPublication}
 use Rattle.sk_publishing.specs.Laws.{Stops}
 use Rattle.sk_publishing.specs.Table.{ChainView}
-use Rattle.sk_publishing.specs.Published.{triple_values, id_items, coefficient_items, appended}
+use Rattle.sk_publishing.specs.Published.{triple_values, id_items, coefficient_items}
 use Rattle.sk_publishing.proofs.Sorting.{one_publication, one_stop}
 use Rattle.sk_audit.specs.declared.verdict.AuditFault.TheVariants.{Settings, Standing, Items, Chain, Table}
 use Rattle.sk_audit.specs.Audit.{Audit, HasBadSettings, Stands, HasItems, HasChain, HasPublication, IsFirstDifference, IsAccepted, audit_checks, table_of}
+use Rattle.sk_audit.specs.Claimed.{NoneClaims}
 use Rattle.sk_audit.specs.Walked.{HasBadTerms}
 
 pub one_last : (x : Input) (a b : TripleView) → HasLast x a → HasLast x b → a ≡ b
@@ -97,11 +98,11 @@ module _ (a : Audit) where
 
 -- ---- the values are determined by the items
 
-appended_values : Op → List Value → List Value
+abbrev appended_values : Op → List Value → List Value
 appended_values Set values = []
 appended_values Append values = values
 
-values_in : List ItemView → List Value
+abbrev values_in : List ItemView → List Value
 values_in [] = []
 values_in (item ∷ items) = appended_values item.op item.values ++ values_in items
 
@@ -181,3 +182,18 @@ pub not_claimed : (a : Audit) (old : TripleView) (values : List Value) (dropped 
     → IsPublication (a.input.terms old) a.input.all dropped segments → values ≢ flat_map triple_values (new_triples segments) → (chain : ChainView) → ¬ HasChain a values chain
 not_claimed a old values dropped segments is p other chain h =
     other (h.values_are ∙ ap (λ (ss : List SegmentView). flat_map triple_values (new_triples ss)) (one_segments a old values dropped segments is p chain h))
+
+-- ---- the same of an input alone
+
+pub none_many : (x : Input) (old : TripleView) (values : List Value) (dropped : List Sight) (segments : List SegmentView) → HasLast x old
+    → IsPublication (x.terms old) x.all dropped segments → AreTooMany x segments → NoneClaims x values
+none_many x old values dropped segments is p many a same chain h =
+    too_many a old values dropped segments (subst (λ (y : Input). HasLast y old) (sym same) is)
+    (subst (λ (y : Input). IsPublication (y.terms old) y.all dropped segments) (sym same) p)
+    (subst (λ (y : Input). AreTooMany y segments) (sym same) many) chain h
+
+pub none_other : (x : Input) (old : TripleView) (values : List Value) (dropped : List Sight) (segments : List SegmentView) → HasLast x old
+    → IsPublication (x.terms old) x.all dropped segments → values ≢ flat_map triple_values (new_triples segments) → NoneClaims x values
+none_other x old values dropped segments is p other a same chain h =
+    not_claimed a old values dropped segments (subst (λ (y : Input). HasLast y old) (sym same) is)
+    (subst (λ (y : Input). IsPublication (y.terms old) y.all dropped segments) (sym same) p) other chain h

@@ -1,8 +1,7 @@
 -- The first line that differs.
-use Rattle.std.proofs.Common.{◌≡◌, ◌≢◌, ℕ, zero, suc, ◌+◌, ◌-◌, ◌<◌, List, [], ◌∷◌, ◌++◌, length, take, drop, refl, sym, ap, subst, ◌∙◌, arith, Option, None, Some}
+use Rattle.std.proofs.Common.{◌≡◌, ◌≢◌, ℕ, zero, suc, ◌+◌, ◌-◌, ◌<◌, List, [], ◌∷◌, ◌++◌, length, refl, sym, ap, subst, ◌∙◌, arith, None, Some}
 use Rattle.std.specs.Prelude.{slice_get}
 use Rattle.sk_audit.specs.Audit.{IsFirstDifference}
-
 
 -- behind the same lines
 at_length : (done xs : List (List ℕ)) → slice_get (done ++ xs) (length done) ≡ slice_get xs 0

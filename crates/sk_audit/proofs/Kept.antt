@@ -1,5 +1,5 @@
 -- What is kept of a list of observations has what its new ones have.
-use Rattle.std.proofs.Common.{◌≡◌, List, [], ◌∷◌, ◌++◌, true, sym, subst, inl, inr}
+use Rattle.std.proofs.Common.{◌≡◌, List, [], ◌∷◌, true, sym, subst, inl, inr}
 use Rattle.std.specs.List.{AllByRecursion}
 use Rattle.sk_publishing.specs.Terms.{Sight, Terms}
 use Rattle.sk_publishing.specs.Kept.{is_new, SortsNext, SortsFrom, Sorts}

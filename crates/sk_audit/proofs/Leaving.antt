@@ -24,7 +24,7 @@ use Rattle.sk_audit.specs.declared.interval.Running.{Running}
 use Rattle.sk_audit.specs.declared.ending.Beginning.{Beginning}
 use Rattle.sk_audit.specs.Given.{end_view, anchor_of, sight_at, CanMeet}
 use Rattle.sk_audit.specs.Walking.{WalkView, begun_at, open_of, IsWalk}
-use Rattle.sk_audit.specs.Pairs.{CanEnd, IsRunning}
+use Rattle.sk_audit.specs.Pairs.{CanEnd}
 use Rattle.sk_audit.specs.Scene.{SceneView, terms, all_of, IsNext, IsBuiltTo, Grows, IsHere, RunsOver, CanEndAs, LacksRate, IsBeginning, NoneMeets}
 use Rattle.sk_audit.proofs.Moves.{IsLeft, moves_off, after_anchor, after_left, some_front, none_front}
 use Rattle.sk_audit.proofs.Ranges.{between_ticks, due_near, left_is_anchor, meets_anchor, meets_stuck, scaled_from, scaled_to}
@@ -102,7 +102,6 @@ begun_meets t o b h =
     (one_greatest (IsAllowedStep t) t.gauge (anchor_of b.anchor) o b.bounds.least h.is_least)
     (one_least (IsAllowedStep t) t.gauge (anchor_of b.anchor) o b.bounds.greatest h.is_greatest) h.filled in
     (subst (IsGridRate t) (sym h.middle) m.0, subst (λ (r : ℤ). Meets t.gauge (anchor_of b.anchor) r o) (sym h.middle) m.1.0)
-
 
 module _ (scene : SceneView) (n : ℕ) (row : RowView) (f : WalkView) (next : IsNext scene n row) where
   abbrev t : Terms

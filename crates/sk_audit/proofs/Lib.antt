@@ -21,6 +21,8 @@ pub mod NewTriples
 pub mod Joined
 pub mod Floors
 pub mod Marking
+pub mod Rowing
+pub mod Early
 pub mod Deciding
 pub mod Differing
 pub mod Lining
@@ -28,3 +30,5 @@ pub mod Shared
 pub mod Passing
 pub mod Stepping
 pub mod Evaluating
+pub mod Comparing
+pub mod Judging

@@ -1,11 +1,11 @@
 -- The lines of the table, one after the other.
-use Rattle.std.proofs.Common.{◌≡◌, ℕ, suc, ◌+◌, ◌<◌, List, [], ◌∷◌, ◌++◌, length, take, drop, get_or, refl, sym, ap, subst, arith, ◌∙◌, append_assoc, append-nil, Option, Some}
+use Rattle.std.proofs.Common.{◌≡◌, ℕ, suc, ◌+◌, ◌<◌, List, [], ◌∷◌, ◌++◌, length, take, drop, get_or, refl, sym, ap, arith, ◌∙◌, None, Some, slice_index_or}
 use Rattle.std.proofs.lemmas.List.{take_more, take-append-drop, length-take-le}
 use Rattle.std.proofs.Math.Seq.{drop-cons}
 use Rattle.sk_publishing.specs.Row.{RowView}
-use Rattle.sk_publishing.specs.Table.{ChainView, row_line, row_lines_from, table_lines, kind_text, end_field}
+use Rattle.sk_publishing.specs.Table.{ChainView, row_line, row_lines_from, table_lines, kind_text}
 use Rattle.sk_audit.specs.declared.table.Table.{Table}
-use Rattle.sk_audit.specs.Marks.{Tells}
+use Rattle.sk_audit.specs.Marks.{Tells, end_words}
 use Rattle.sk_audit.specs.Rows.{fields_of}
 use Rattle.sk_audit.specs.Tables.{kernel_of, line_of, lines_from, lines_of, head_of}
 
@@ -51,7 +51,7 @@ module _ (t : Table) where
     line_same : (place : ℕ) (row : RowView) → place < length t.observations.now → line_of t place row ≡ row_line (kernel_of t) (Some chain) t.observations.now place row
     line_same place row less =
         let told = tells place less in
-        ap (λ (w : List ℕ). fields_of (kernel_of t) row w _) told.kind ∙ ap (λ (w : List ℕ). fields_of (kernel_of t) row (kind_text (Some chain) place) w) told.ended
+        ap (λ (w : List ℕ). fields_of (kernel_of t) row w (end_words t.observations.now (slice_index_or t.marks.now.ends.items place None))) told.kind ∙ ap (λ (w : List ℕ). fields_of (kernel_of t) row (kind_text (Some chain) place) w) told.ended
 
     lines_same : (place : ℕ) (rows : List RowView) → place + length rows ≡ length t.observations.now → lines_from t place rows ≡ row_lines_from (kernel_of t) (Some chain) t.observations.now place rows
     lines_same place [] e = refl

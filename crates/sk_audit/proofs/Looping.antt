@@ -4,7 +4,7 @@ use Rattle.std.specs.Prelude.{Some, slice_get}
 use Rattle.sk_publishing.specs.Row.{RowView}
 use Rattle.sk_clock.specs.Clock.{total}
 use Rattle.sk_publishing.specs.Terms.{Sight, Terms, sights}
-use Rattle.sk_publishing.specs.Kept.{Sorts, is_new, HasNoRate, HasTimeFall}
+use Rattle.sk_publishing.specs.Kept.{Sorts, is_new}
 use Rattle.sk_audit.specs.Given.{sight_at}
 use Rattle.sk_audit.specs.Walking.{WalkView, Moves, StopsWalk}
 use Rattle.sk_audit.specs.Scene.{SceneView, IsScene, IsNext, terms}
@@ -25,29 +25,32 @@ goes_on t rows n row w w' here moves h =
 
 pub stops : (t : Terms) (rows : List RowView) (n : ℕ) (row : RowView) (w : WalkView) → slice_get rows n ≡ Some row
     → is_new t (sight_at n row) ≡ true → IsWalked t rows n w → StopsWalk t (sights rows) n (sight_at n row) w → IsStopped t rows
-stops t rows n row w here new h s = (sight_at n row, elim (s h.kept h.dropped h.walk) [
-  | inl why ↦ inl (record {
-    before = take n (sights rows);
-    after = drop (n + 1) (sights rows);
-    here = here_row rows n row here;
-    is_new = new;
-    kept = h.kept;
-    dropped = h.dropped;
-    sorts = h.sorts;
-    used_up = why.1;
-    no_rate = why.0;
-  })
-  | inr why ↦ inr (record {
-    before = take n (sights rows);
-    after = drop (n + 1) (sights rows);
-    here = here_row rows n row here;
-    is_new = new;
-    kept = h.kept;
-    dropped = h.dropped;
-    sorts = h.sorts;
-    falls = why;
-  })
-])
+stops t rows n row w here new h s = (
+  sight_at n row,
+  elim (s h.kept h.dropped h.walk) [
+    | inl why ↦ inl (record {
+      before = take n (sights rows);
+      after = drop (n + 1) (sights rows);
+      here = here_row rows n row here;
+      is_new = new;
+      kept = h.kept;
+      dropped = h.dropped;
+      sorts = h.sorts;
+      used_up = why.1;
+      no_rate = why.0;
+    })
+    | inr why ↦ inr (record {
+      before = take n (sights rows);
+      after = drop (n + 1) (sights rows);
+      here = here_row rows n row here;
+      is_new = new;
+      kept = h.kept;
+      dropped = h.dropped;
+      sorts = h.sorts;
+      falls = why;
+    })
+  ],
+)
 
 -- the next observation keeps to what a walk asks of it
 pub next_one : (scene : SceneView) (n : ℕ) (row : RowView) → IsScene scene → slice_get scene.rows n ≡ Some row → n + 1 < 2 ^ 64

@@ -1,6 +1,6 @@
 -- Marks, one after the other, and what they tell.
-use Rattle.std.proofs.Common.{◌≡◌, ◌≢◌, ℕ, zero, suc, ◌+◌, ◌<◌, ◌≤◌, Bool, true, false, cond, ◌||◌, eqb, List, [], ◌∷◌, ◌++◌, length, take, get_or, set, map, Option, None, Some, refl, sym, ap, subst, arith, ◌∙◌, inl, inr}
-use Rattle.std.proofs.lemmas.Bool.{cases_Bool, eqb-true, eqb-false}
+use Rattle.std.proofs.Common.{◌≡◌, ◌≢◌, ℕ, ◌+◌, ◌<◌, Bool, true, false, cond, ◌||◌, eqb, List, [], ◌∷◌, ◌++◌, length, take, get_or, set, map, Option, None, Some, refl, sym, ap, arith, ◌∙◌}
+use Rattle.std.proofs.lemmas.Bool.{eqb-true, eqb-false}
 use Rattle.std.proofs.lemmas.List.{take_more, get_or-set_same, get_or-set_other, length-set}
 use Rattle.std.proofs.lemmas.List.Folds.{list_any-append}
 use Rattle.std.proofs.Math.Bool.{or-false, or-true}
@@ -10,7 +10,7 @@ use Rattle.std.specs.Option.{option_map, option_map_or}
 use Rattle.sk_publishing.specs.Row.{RowView}
 use Rattle.sk_publishing.specs.Terms.{Sight}
 use Rattle.sk_publishing.specs.Chain.{SegmentView, EndView, last_of}
-use Rattle.sk_publishing.specs.Table.{ChainView, is_left_at, end_text}
+use Rattle.sk_publishing.specs.Table.{is_left_at, end_text}
 use Rattle.sk_audit.specs.declared.told.Told.{Told}
 use Rattle.sk_audit.specs.declared.told.End.{End}
 use Rattle.sk_audit.specs.declared.marks.Marks.{Marks}

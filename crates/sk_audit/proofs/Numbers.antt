@@ -1,9 +1,10 @@
 -- A value is the number of units exactly where the number has these units.
-use Rattle.std.proofs.Common.{◌≡◌, ℕ, ◌^◌, ◌<◌, ◌≤◌, suc, Bool, false, IsTrue, List, [], ◌∷◌, ◌++◌, length, get_or, take, drop, sym, ap, subst, ◌∙◌, arith}
+use Rattle.std.proofs.Common.{◌≡◌, ℕ, ◌^◌, ◌<◌, ◌≤◌, zero, suc, false, IsTrue, List, [], ◌∷◌, ◌++◌, length, get_or, take, drop, sym, ap, subst, ◌∙◌, arith}
 use Rattle.std.proofs.Math.Seq.{drop-cons}
 use Rattle.std.proofs.lemmas.List.{take-append-drop}
 use Rattle.std.proofs.lemmas.List.Concat.{flat_map-append}
-use Rattle.std.specs.List.{flat_map}
+use Rattle.std.specs.List.{All, flat_map}
+use Rattle.std.proofs.lemmas.List.Elements.{All-tail}
 use Rattle.sk_line.specs.Triple.{TripleView}
 use Rattle.sk_grammar.specs.declared.value.Value.{Value}
 use Rattle.sk_grammar.specs.declared.value.Value.TheVariants.{Number}
@@ -75,3 +76,14 @@ front_is [] behind t more long e = absurd (omega arith)
 front_is (a ∷ []) behind t more long e = absurd (omega arith)
 front_is (a ∷ b ∷ []) behind t more long e = absurd (omega arith)
 front_is (a ∷ b ∷ c ∷ d ∷ three) behind t more long e = absurd (omega arith)
+
+-- ---- parts of lists
+
+pub front_values : (P : Value → Type 0) (xs ys : List Value) → All P (xs ++ ys) → All P xs
+front_values P [] ys h k d less = absurd (omega arith)
+front_values P (x ∷ xs) ys h zero d less = h 0 d (omega arith)
+front_values P (x ∷ xs) ys h (suc k) d less = front_values P xs ys (All-tail P x (xs ++ ys) h) k d (omega arith)
+
+pub back_values : (P : Value → Type 0) (xs ys : List Value) → All P (xs ++ ys) → All P ys
+back_values P [] ys h = h
+back_values P (x ∷ xs) ys h = back_values P xs ys (All-tail P x (xs ++ ys) h)

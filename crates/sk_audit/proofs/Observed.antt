@@ -4,10 +4,10 @@ use Rattle.sk_audit.proofs.Quotients.{sized_from, sized_to}
 use Rattle.std.proofs.lemmas.Bool.Decides.{leb_tells}
 use Rattle.std.proofs.lemmas.List.Sums.{sum_by-cons}
 use Rattle.std.proofs.lemmas.Option.{none-some, same_Some, slice_get_within, slice_get-get_or, get_or_from_slice_get}
-use Rattle.std.specs.Prelude.{pos, neg_ℤ, ◌≤ℤ◌, ◌||◌, not, nat_lt, slice_get, count_by}
+use Rattle.std.specs.Prelude.{pos, neg_ℤ, ◌≤ℤ◌, not, slice_get, count_by}
 use Rattle.std.specs.List.{AllByRecursion}
 use Rattle.sk_publishing.specs.Row.{RowView, AreRows, IsObservedTime}
-use Rattle.sk_publishing.specs.Terms.{Sight, Terms, partition_at, seam, sights, sights_from}
+use Rattle.sk_publishing.specs.Terms.{Sight, Terms, sights, sights_from}
 use Rattle.sk_publishing.specs.Kept.{is_new, SortsNext, SortsFrom, Sorts}
 use Rattle.sk_line.proofs.Lists.{all_back, all_map}
 use Rattle.sk_audit.specs.Given.{sight_at}

@@ -1,11 +1,10 @@
 -- Allowed rates as a band, partitions between ticks, and the sizes that arithmetic needs.
-use Rattle.std.proofs.Common.{◌≡◌, ℕ, ◌+◌, ◌*◌, ◌^◌, ◌<◌, ◌≤◌, Bool, List, [], ◌∷◌, ◌++◌, ◌-◌, sym, ap, subst, inl, inr, ◌∙◌, arith, if◌then◌else◌}
+use Rattle.std.proofs.Common.{◌≡◌, ℕ, ◌*◌, ◌^◌, ◌<◌, ◌≤◌, List, [], ◌∷◌, ◌++◌, ◌-◌, sym, ap, subst, inl, inr, ◌∙◌, arith}
 use Rattle.sk_audit.proofs.Quotients.{through}
 use Rattle.std.proofs.lemmas.Int.{ints, by_lt_z}
-use Rattle.std.proofs.lemmas.Bool.Decides.{leb_tells}
 use Rattle.std.proofs.Math.Nat.{mul-le-mul_left, one-le-mul}
-use Rattle.std.specs.Prelude.{ℤ, pos, neg_ℤ, ◌+ℤ◌, ◌-ℤ◌, ◌*ℤ◌, ◌≤ℤ◌, ◌<ℤ◌, nat_le}
-use Rattle.sk_clock.specs.Clock.{ticks_per, partition_from}
+use Rattle.std.specs.Prelude.{ℤ, pos, neg_ℤ, ◌+ℤ◌, ◌-ℤ◌, ◌*ℤ◌, ◌≤ℤ◌, ◌<ℤ◌}
+use Rattle.sk_clock.specs.Clock.{ticks_per}
 use Rattle.sk_publishing.specs.Terms.{Sight, Gauge, Terms, partition_at, unit, in_seconds}
 use Rattle.sk_line.specs.Triple.{Anchor}
 use Rattle.sk_publishing.specs.Meets.{Meets, line_at, scaled}

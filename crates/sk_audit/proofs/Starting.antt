@@ -12,7 +12,7 @@ use Rattle.sk_clock.specs.Clock.{ClockView, ticks_per, total}
 use Rattle.sk_publishing.specs.Terms.{Sight, Terms, unit, partition_at, hold_of, seam}
 use Rattle.sk_line.specs.Triple.{TripleView}
 use Rattle.sk_publishing.specs.Meets.{line_at}
-use Rattle.sk_publishing.specs.Chain.{SegmentView, LastEnd, IsChain, left_at, rounded_up}
+use Rattle.sk_publishing.specs.Chain.{SegmentView, LastEnd, IsChain, rounded_up}
 use Rattle.sk_publishing.specs.Kept.{is_new}
 use Rattle.sk_triples.specs.Kernel.{IsTriple}
 use Rattle.sk_publishing.specs.Built.{Built}
@@ -22,7 +22,7 @@ use Rattle.sk_line.proofs.Products.{twice, power_positive}
 use Rattle.sk_publishing.proofs.Marks.{partition_rises}
 use Rattle.sk_audit.specs.declared.settings.AuditSettings.{AuditSettings}
 use Rattle.sk_audit.specs.Given.{IsSmallClock, terms_of}
-use Rattle.sk_audit.specs.Walking.{HoldsDue, IsOpen, IsWalk, fresh, open_of}
+use Rattle.sk_audit.specs.Walking.{HoldsDue, IsOpen, IsWalk, fresh}
 use Rattle.sk_audit.proofs.Quotients.{through}
 
 -- ---- the chain of the old last triple alone

@@ -1,8 +1,8 @@
 -- The kernel of a publication whose triples are claimed.
-use Rattle.std.specs.Prelude.{◌≡◌, ℕ, List, ◌++◌, flat_map, map}
+use Rattle.std.specs.Prelude.{◌≡◌, List, ◌++◌, flat_map, map}
 use Rattle.sk_grammar.specs.declared.value.Value.{Value}
 use Rattle.sk_publishing.specs.Terms.{Sight}
-use Rattle.sk_publishing.specs.Input.{Input, HasLast, AreTooMany}
+use Rattle.sk_publishing.specs.Input.{Input, AreTooMany}
 use Rattle.sk_publishing.specs.Chain.{SegmentView, new_triples}
 use Rattle.sk_publishing.specs.Kept.{IsPublication}
 use Rattle.sk_publishing.specs.Table.{ChainView}

@@ -6,7 +6,7 @@ use Rattle.sk_line.specs.Triple.{TripleView}
 use Rattle.sk_publishing.specs.Terms.{Sight, Terms, partition_at, sights}
 use Rattle.sk_publishing.specs.Meets.{Meets}
 use Rattle.sk_publishing.specs.Rates.{IsBand, IsLeastRate, IsGreatestRate, on_grid}
-use Rattle.sk_publishing.specs.Chain.{IsAllowedStep, IsInPartition}
+use Rattle.sk_publishing.specs.Chain.{IsAllowedStep}
 use Rattle.sk_publishing.specs.Kept.{is_new, HasNoRate, HasTimeFall}
 use Rattle.sk_publishing.specs.Built.{middle_rate}
 use Rattle.sk_audit.specs.declared.settings.AuditSettings.{AuditSettings}
@@ -16,7 +16,7 @@ use Rattle.sk_audit.specs.declared.start.Start.{Start}
 use Rattle.sk_audit.specs.declared.ending.Beginning.{Beginning}
 use Rattle.sk_audit.specs.declared.interval.Running.{Running}
 use Rattle.sk_audit.specs.Given.{AreSettings, IsUsableBand, IsRate, IsSmallClock, terms_of, anchor_of, band_view, sight_at, end_view}
-use Rattle.sk_audit.specs.Walking.{WalkView, IsWalk, IsBuilt, IsAt, Rises, Moves, StopsWalk, open_of}
+use Rattle.sk_audit.specs.Walking.{WalkView, IsWalk, IsBuilt, IsAt, Rises, Moves, StopsWalk}
 use Rattle.sk_audit.specs.Pairs.{IsRunning, CanEnd}
 
 -- all that a walk reads and never changes

@@ -1,8 +1,7 @@
 -- The lines of the table by what is told of each observation.
-use Rattle.std.specs.Prelude.{◌≡◌, ℕ, ◌+◌, List, [], ◌∷◌, ◌++◌, length, codes, decimal, slice_index_or, None}
+use Rattle.std.specs.Prelude.{ℕ, ◌+◌, List, [], ◌∷◌, ◌++◌, length, codes, decimal, slice_index_or, None}
 use Rattle.sk_publishing.specs.Row.{RowView}
 use Rattle.sk_publishing.specs.Table.{KernelView, kernel_view}
-use Rattle.sk_audit.specs.declared.marks.Marks.{Marks}
 use Rattle.sk_audit.specs.declared.table.Table.{Table}
 use Rattle.sk_audit.specs.Marks.{end_words, kind_word}
 use Rattle.sk_audit.specs.Rows.{fields_of}

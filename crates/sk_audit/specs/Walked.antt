@@ -1,5 +1,5 @@
 -- What a walk has built over the first observations of a list, and why there is no publication of all.
-use Rattle.std.specs.Prelude.{◌≡◌, ◌⊎◌, ℕ, ◌<◌, Bool, true, false, ◌||◌, nat_lt, List, take, Some, None, slice_get, length, [], ◌∷◌, ◌++◌, map}
+use Rattle.std.specs.Prelude.{◌≡◌, ◌⊎◌, ℕ, ◌<◌, Bool, true, false, ◌||◌, nat_lt, List, take, Some, slice_get, map}
 use Rattle.sk_publishing.specs.Row.{RowView}
 use Rattle.sk_clock.specs.Clock.{ClockView, total, partition_at}
 use Rattle.sk_publishing.specs.Terms.{Sight, Terms, sights, seam as seam_of}
@@ -12,13 +12,10 @@ use Rattle.sk_publishing.specs.Input.{Input, HasLast, IsBadHold, IsBandEmpty, Be
 use Rattle.sk_line.specs.Line.{FallsOver}
 use Rattle.sk_triples.specs.Kernel.{TriplesView, IsTriple}
 use Rattle.sk_audit.specs.declared.settings.AuditSettings.{AuditSettings}
-use Rattle.sk_audit.specs.declared.told.Told.{Told}
-use Rattle.sk_audit.specs.declared.told.End.TheVariants.{Last}
 use Rattle.sk_audit.specs.declared.walking.Account.{Account}
 use Rattle.sk_audit.specs.Given.{IsUsableBand, IsSmallClock, terms_of}
 use Rattle.sk_audit.specs.Audit.{input_of}
-use Rattle.sk_audit.specs.Scene.{SceneView, terms}
-use Rattle.sk_audit.specs.Walking.{WalkView, IsWalk, Tell, closed_as}
+use Rattle.sk_audit.specs.Walking.{WalkView, IsWalk, Tell}
 
 -- a publication of the first n observations
 pub record IsWalked (t : Terms) (rows : List RowView) (n : ℕ) (w : WalkView) : Type 0 where

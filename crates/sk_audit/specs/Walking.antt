@@ -1,5 +1,5 @@
 -- The state of a walk over observations: what is built so far, and when that is a publication of what came.
-use Rattle.std.specs.Prelude.{◌≡◌, ◌⊎◌, ℕ, ◌+◌, ◌*◌, ◌^◌, ◌<◌, ◌≤◌, ℤ, pos, neg_ℤ, ◌≤ℤ◌, ◌*ℤ◌, List, [], ◌∷◌, ◌++◌, map, length, Option, None, Some}
+use Rattle.std.specs.Prelude.{◌≡◌, ◌⊎◌, ℕ, ◌+◌, ◌<◌, ◌≤◌, ℤ, pos, List, [], ◌∷◌, ◌++◌, map, length, Option, None, Some}
 use Rattle.std.specs.List.{AllByRecursion}
 use Rattle.std.specs.Option.{option_map}
 use Rattle.sk_decimal.specs.declared.fixed.Fixed.{Fixed}
@@ -13,7 +13,7 @@ use Rattle.sk_line.specs.Triple.{Anchor, TripleView}
 use Rattle.sk_publishing.specs.Chain.{SegmentView, EndView, LastEnd, IsInPartition, left_at, rounded_up, last_of}
 use Rattle.sk_publishing.specs.Kept.{SortsNext, HasNoRate, HasTimeFall}
 use Rattle.sk_publishing.specs.Built.{Built}
-use Rattle.sk_audit.specs.Given.{IsRate, IsSmallClock, HoldsLine, anchor_of, end_view}
+use Rattle.sk_audit.specs.Given.{IsRate, HoldsLine, anchor_of, end_view}
 
 -- ---- what is told of a segment
 

@@ -6,8 +6,8 @@ ghost use Rattle.sk_line.specs.Line.{line_over};
 ghost use Rattle.sk_publishing.specs.Rates.{on_grid as grid_rate};
 ghost use Rattle.sk_audit.specs.Given.{anchor_of, IsRate, HoldsLine};
 
-use crate::products::{begun, ceiling_by, floor_by, gain, grid, in_seconds};
 use crate::line::Line;
+use crate::products::{begun, ceiling_by, floor_by, gain, grid, in_seconds};
 use sk_decimal::Fixed;
 use sk_obs::Observation;
 

@@ -1,6 +1,7 @@
 //! The audit of a new kernel.
 
 ghost use Rattle.std.specs.Prelude.{◌≡◌, ◌≢◌, ◌≤◌, ◌<◌, ◌+◌, ◌^◌, All, IfOk, IfSome, IfNone, IsTrue, None, Some, false, length, slice_get, ℕ};
+ghost use Rattle.std.specs.Int.{IsInRange};
 ghost use Rattle.sk_clock.specs.Clock.{total};
 ghost use Rattle.sk_grammar.specs.Document.{IsValue};
 ghost use Rattle.sk_line.specs.Line.{covering};
@@ -11,7 +12,7 @@ ghost use Rattle.sk_triples.specs.Kernel.{AreOf};
 ghost use Rattle.sk_audit.specs.Audit.{Decides, audit_of, input_of};
 ghost use Rattle.sk_audit.specs.Claimed.{IsNewKernel, NoneClaims};
 ghost use Rattle.sk_audit.specs.Given.{AreSettings};
-ghost use Rattle.sk_audit.specs.Scene.{terms};
+ghost use Rattle.sk_audit.specs.Scene.{IsScene, terms};
 ghost use Rattle.sk_audit.specs.Walked.{IsAccount};
 
 use crate::claims::{are_claimed, triples_of};
@@ -52,6 +53,7 @@ impl<'a> Scene<'a> {
         account: &Account,
         values: &[Value],
     ) -> Result<Option<Triples>, NoMemory>
+        requires scene { IsScene self.now }
         requires triples { AreOf self.now.clock triples.now }
         requires begins { Begins (input_of triples.now self.now.clock self.now.rows self.now.settings) self.now.start.old }
         requires account { IsAccount (terms self.now) (sights self.now.rows) account.now }
@@ -83,7 +85,14 @@ pub fn audit(
     sc: u32,
     observations: &[Observation],
     settings: &AuditSettings,
-) -> Result<Verdict, NoMemory> {
+) -> Result<Verdict, NoMemory>
+    requires triples { AreOf clock.now triples.now }
+    requires sc { IsInRange 1 999_999_999 sc }
+    requires rows { AreRows (total clock.now) observations.now }
+    requires few { length observations.now ≤ 100_000 }
+    requires settings { AreSettings settings.now }
+    ensures { IfOk result (Decides (audit_of old.now new.now clock.now triples.now sc observations.now settings.now)) }
+{
     let Some(start) = start_of(triples, clock, settings) else {
         return Ok(Verdict::No(AuditFault::Settings));
     };
@@ -106,12 +115,7 @@ pub fn audit(
         return Ok(Verdict::No(AuditFault::Chain));
     };
     let marks = marks_of(alloc, &account, first_new, observations.len())?;
-    let table = Table {
-        triples: &kernel,
-        clock,
-        observations,
-        marks: &marks,
-    };
+    let table = Table::new(&kernel, clock, observations, &marks);
     match table.first_difference(alloc, &block.text)? {
         None => Ok(Verdict::Yes),
         Some(line) => Ok(Verdict::No(AuditFault::Table(line))),

@@ -2,8 +2,8 @@
 
 ghost use Rattle.std.specs.Prelude.{◌≡◌, ◌↔◌, ◌-◌, ◌+◌, ◌*◌, ◌^◌, ◌<◌, ◌≤◌, ℤ, pos, neg_ℤ, ◌*ℤ◌, ◌≤ℤ◌, ◌<ℤ◌, IfSome, IfNone};
 
-use crate::products::{ceiling_by, floor_by, grid};
 use crate::line::Band;
+use crate::products::{ceiling_by, floor_by, grid};
 use crate::settings::AuditSettings;
 use sk_decimal::Fixed;
 

@@ -1,6 +1,6 @@
 //! Whether numbers claim the triples of a publication.
 
-ghost use Rattle.std.specs.Prelude.{◌≡◌, ◌↔◌, ◌≤◌, ◌<◌, ◌^◌, IfOk, IsTrue, All, flat_map, map, length, nat_abs};
+ghost use Rattle.std.specs.Prelude.{◌≡◌, ◌↔◌, ◌≤◌, ◌<◌, ◌^◌, IfOk, IsTrue, All, flat_map, map, length, nat_abs, pos};
 ghost use Rattle.sk_grammar.specs.Document.{IsValue};
 ghost use Rattle.sk_grammar.specs.declared.value.Value.TheVariants.{Number};
 ghost use Rattle.sk_publication.specs.Publication.{HasNumbers};
@@ -60,24 +60,41 @@ fn is_number<const S: u32>(value: &Value, number: Fixed<S>) -> bool
     }
 }
 
+// The value is this number of ticks.
+fn is_ticks(value: &Value, ticks: u64) -> bool
+    requires { IsValue value.now }
+    ensures { IsTrue result ↔ (value.now ≡ Number (reduced 0 (pos ticks))) }
+{
+    let number = Fixed::<0> {
+        units: ticks as i128,
+    };
+    is_number(value, number)
+}
+
+// The value is this number of seconds.
+fn is_seconds(value: &Value, seconds: Fixed<18>) -> bool
+    requires valid { IsValue value.now }
+    requires size { nat_abs seconds.units < 2 ^ 127 }
+    ensures { IsTrue result ↔ (value.now ≡ Number (reduced 18 seconds.units)) }
+{
+    is_number(value, seconds)
+}
+
 // The values are the ticks, the time and the rate.
 fn are_triple(values: &[Value], triple: Triple) -> bool
     requires valid { All IsValue values.now }
     requires numbers { HasNumbers triple }
     ensures { IsTrue result ↔ (values.now ≡ triple_values triple) }
 {
-    let ticks = Fixed::<0> {
-        units: triple.ticks as i128,
-    };
     match values {
         [first, second, third] => {
-            if !is_number(first, ticks) {
+            if !is_ticks(first, triple.ticks) {
                 return false;
             }
-            if !is_number(second, triple.time) {
+            if !is_seconds(second, triple.time) {
                 return false;
             }
-            is_number(third, triple.rate)
+            is_seconds(third, triple.rate)
         }
         _ => false,
     }

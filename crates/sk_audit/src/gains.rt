@@ -4,8 +4,8 @@ ghost use Rattle.std.specs.Prelude.{◌≡◌, ◌↔◌, IsTrue, ◌-◌, ◌*�
 ghost use Rattle.sk_audit.specs.Given.{band_view};
 ghost use Rattle.sk_audit.specs.Gains.{IsLeastGain, IsGreatestGain};
 
-use crate::products::{ceiling_by, floor_by, scaled};
 use crate::line::Band;
+use crate::products::{ceiling_by, floor_by, scaled};
 
 /// The least rate of the band that gains what is wanted, or one above the band.
 pub fn least_gain(band: Band, wanted: i128, step: u128) -> i128

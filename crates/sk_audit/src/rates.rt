@@ -6,8 +6,8 @@ ghost use Rattle.sk_publishing.specs.Meets.{Meets};
 ghost use Rattle.sk_publishing.specs.Rates.{InBand, IsLeastRate, IsGreatestRate};
 
 use crate::gains::{greatest_gain, is_within, least_gain, room, wanted};
-use crate::products::{begun, gain, grid, step_gain};
 use crate::line::{Band, Bounds, Line};
+use crate::products::{begun, gain, grid, step_gain};
 use crate::settings::AuditSettings;
 use sk_clock::Clock;
 use sk_decimal::Fixed;

@@ -13,10 +13,10 @@ ghost use Rattle.sk_audit.specs.Scene.{IsScene, IsNext, claiming, terms};
 ghost use Rattle.sk_audit.specs.Evaluated.{IsBetween};
 
 use crate::anchors::{line_at, middle_rate, rounded_up};
+use crate::line::{Bounds, Line};
 use crate::partitions::are_together;
 use crate::products::{grid, is_less, is_step_between, scaled};
 use crate::rates::{bounds, meets};
-use crate::line::{Bounds, Line};
 use crate::settings::AuditSettings;
 use crate::start::Start;
 use sk_clock::Clock;

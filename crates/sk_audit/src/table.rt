@@ -30,10 +30,10 @@ use std::alloc::Global;
 /// What the table of a publication is made from: the new kernel, the observations and what is told of them.
 #[derive(Drop)]
 pub struct Table<'a> {
-    pub triples: &'a Triples,
-    pub clock: &'a Clock,
-    pub observations: &'a [Observation],
-    pub marks: &'a Marks,
+    triples: &'a Triples,
+    clock: &'a Clock,
+    observations: &'a [Observation],
+    marks: &'a Marks,
 }
 
 // The place of the first line feed.
@@ -91,6 +91,26 @@ fn head_line(count: usize) -> Line
 }
 
 impl<'a> Table<'a> {
+    /// The table of a new kernel.
+    pub fn new(
+        triples: &'a Triples,
+        clock: &'a Clock,
+        observations: &'a [Observation],
+        marks: &'a Marks,
+    ) -> Table<'a>
+        ensures triples { result.triples.now ≡ triples.entry.now }
+        ensures clock { result.clock.now ≡ clock.entry.now }
+        ensures observations { result.observations.now ≡ observations.entry.now }
+        ensures marks { result.marks.now ≡ marks.entry.now }
+    {
+        Table {
+            triples,
+            clock,
+            observations,
+            marks,
+        }
+    }
+
     // Puts the line of the observation at a place in place of what `line` holds.
     fn write_row(&self, line: &mut Vec<u8>, alloc: Global, place: usize) -> Result<(), NoMemory>
         requires within { place < length self.now.observations.now }
@@ -106,7 +126,14 @@ impl<'a> Table<'a> {
         let text = self.clock_text(alloc, observation)?;
         let kind = kind_at(self.marks, place);
         let ended = end_at(self.observations, self.marks, place);
-        write_line(line, observation, text.as_str(), timed, kind, ended.as_slice())
+        write_line(
+            line,
+            observation,
+            text.as_str(),
+            timed,
+            kind,
+            ended.as_slice(),
+        )
     }
 
     // The clock text of an observation's tick.

@@ -62,7 +62,16 @@ fn said(
     let triples = Triples::of(alloc, &pool, &clock, 99)?;
     let list = observations(alloc, &clock, records)?;
     let settings = settings(rt, asked);
-    let verdict = audit(alloc, &old, &new, &clock, &triples, 99, list.as_slice(), &settings)?;
+    let verdict = audit(
+        alloc,
+        &old,
+        &new,
+        &clock,
+        &triples,
+        99,
+        list.as_slice(),
+        &settings,
+    )?;
     Ok(format!(in alloc; "{verdict:?}")?)
 }
 
@@ -74,10 +83,19 @@ fn edited(rt: &impl AllocGlobal, block: &str, part: &str, other: &str) -> Result
 #[test]
 fn publications_are_accepted(rt: HostRuntime) -> Result<(), Fail> {
     assert_eq!(rt; said(&rt, NINE_DECIMALS, TWO, TWO_BLOCK)?.as_str(), "Yes");
-    assert_eq!(rt; said(&rt, NINE_DECIMALS, THREE, THREE_BLOCK)?.as_str(), "Yes");
-    let one = Asked { reject: 1, ..NINE_DECIMALS };
+    assert_eq!(rt;
+        said(&rt, NINE_DECIMALS, THREE, THREE_BLOCK)?.as_str(),
+        "Yes"
+    );
+    let one = Asked {
+        reject: 1,
+        ..NINE_DECIMALS
+    };
     assert_eq!(rt; said(&rt, one, DROPPED, DROPPED_BLOCK)?.as_str(), "Yes");
-    assert_eq!(rt; said(&rt, NINE_DECIMALS, DROPPED, DROPPED_BLOCK)?.as_str(), "No(Chain)");
+    assert_eq!(rt;
+        said(&rt, NINE_DECIMALS, DROPPED, DROPPED_BLOCK)?.as_str(),
+        "No(Chain)"
+    );
     Ok(())
 }
 
@@ -88,8 +106,16 @@ fn changed_publications_are_refused(rt: HostRuntime) -> Result<(), Fail> {
         ("1.000002 ", "1.0000020 ", "Yes"),
         ("0.00390625", "0.003906249999", "No(Chain)"),
         ("( 1 0.", "( 2 0.", "No(Chain)"),
-        ("\\begindata\n", "\\begindata\nSCLK_KERNEL_ID = @2024-06-01\n", "Yes"),
-        ("\\begindata\n", "\\begindata\nSCLK_KERNEL_ID += @2024-06-01\n", "No(Items)"),
+        (
+            "\\begindata\n",
+            "\\begindata\nSCLK_KERNEL_ID = @2024-06-01\n",
+            "Yes",
+        ),
+        (
+            "\\begindata\n",
+            "\\begindata\nSCLK_KERNEL_ID += @2024-06-01\n",
+            "No(Items)",
+        ),
         ("+=", "=", "No(Items)"),
         ("_99 ", "_98 ", "No(Items)"),
         (" 1.000002 )", " 1.000002 5 )", "No(Items)"),
@@ -100,17 +126,26 @@ fn changed_publications_are_refused(rt: HostRuntime) -> Result<(), Fail> {
         ("\nb;", "\nx;", "No(Table(3))"),
     ] {
         let block = edited(&rt, TWO_BLOCK, part, other)?;
-        assert_eq!(rt; said(&rt, NINE_DECIMALS, TWO, block.as_str())?.as_str(), wanted);
+        assert_eq!(rt;
+            said(&rt, NINE_DECIMALS, TWO, block.as_str())?.as_str(),
+            wanted
+        );
     }
     let block = edited(&rt, THREE_BLOCK, "blocked:4:3", "blocked:4:4")?;
-    assert_eq!(rt; said(&rt, NINE_DECIMALS, THREE, block.as_str())?.as_str(), "No(Table(3))");
+    assert_eq!(rt;
+        said(&rt, NINE_DECIMALS, THREE, block.as_str())?.as_str(),
+        "No(Table(3))"
+    );
     Ok(())
 }
 
 #[test]
 fn other_documents_are_refused(rt: HostRuntime) -> Result<(), Fail> {
     assert_eq!(rt; said(&rt, NINE_DECIMALS, TWO, "")?.as_str(), "No(Standing)");
-    let held = Asked { hold: Some(1 << 50), ..NINE_DECIMALS };
+    let held = Asked {
+        hold: Some(1 << 50),
+        ..NINE_DECIMALS
+    };
     assert_eq!(rt; said(&rt, held, TWO, TWO_BLOCK)?.as_str(), "No(Settings)");
     Ok(())
 }

@@ -1,7 +1,7 @@
-use Rattle.std.proofs.Common.{◌≡◌, ◌≤◌, rules, sym, ap, subst, ◌∙◌}
+use Rattle.std.proofs.Common.{rules, sym, ap, subst, ◌∙◌}
 use Rattle.std.specs.Prelude.{ℤ}
 use Rattle.sk_decimal.specs.Number.{IsDecimal}
-use Rattle.sk_decimal.specs.Fixed.{FitsWide, HasUnits}
+use Rattle.sk_decimal.specs.Fixed.{FitsWide}
 use Rattle.sk_decimal.specs.declared.fixed.Fixed.{Fixed}
 use Rattle.sk_grammar.specs.Document.{IsValue}
 use Rattle.sk_grammar.specs.declared.value.Value.TheVariants.{Number}

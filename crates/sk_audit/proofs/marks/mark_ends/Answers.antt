@@ -1,4 +1,4 @@
-use Rattle.std.proofs.Common.{◌<◌, ◌≤◌, List, length, get_or, None, Option, ap, refl, subst, ◌∙◌, sym}
+use Rattle.std.proofs.Common.{◌<◌, List, length, get_or, None, Option, ap, refl, ◌∙◌}
 use Rattle.std.specs.Prelude.{pos}
 use Rattle.sk_audit.specs.declared.told.Told.{Told}
 use Rattle.sk_audit.specs.declared.told.End.{End}
