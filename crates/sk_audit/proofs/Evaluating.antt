@@ -1,5 +1,5 @@
 -- Claims are evaluated over one observation more, or are those of no publication.
-use Rattle.std.proofs.Common.{◌≡◌, ℕ, ◌+◌, ◌*◌, ◌-◌, ◌^◌, ◌<◌, List, [], ◌∷◌, ◌++◌, length, refl, sym, ap, subst, ◌∙◌, append_assoc, append-nil, length-append, arith, inl, inr, suc, map, drop, slice_get}
+use Rattle.std.proofs.Common.{◌≡◌, ℕ, ◌+◌, ◌-◌, ◌^◌, ◌<◌, List, [], ◌∷◌, ◌++◌, length, refl, sym, ap, subst, ◌∙◌, append_assoc, append-nil, length-append, arith, suc, map, drop, slice_get}
 use Rattle.std.proofs.lemmas.Int.{ints, by_lt_z}
 use Rattle.std.proofs.lemmas.List.{take_all}
 use Rattle.std.specs.Prelude.{ℤ, pos, ◌*ℤ◌, ◌≤ℤ◌, ◌<ℤ◌, Some, None}
@@ -10,13 +10,12 @@ use Rattle.sk_line.specs.Triple.{Anchor, TripleView}
 use Rattle.sk_line.proofs.Lists.{all_append, all_back}
 use Rattle.sk_line.proofs.Products.{power_positive}
 use Rattle.sk_publishing.specs.Row.{RowView}
-use Rattle.sk_publishing.specs.Terms.{Sight, Terms, sights, sights_from, grid}
+use Rattle.sk_publishing.specs.Terms.{Sight, Terms, sights_from, grid}
 use Rattle.sk_publishing.specs.Meets.{Meets}
 use Rattle.sk_publishing.specs.Rates.{on_grid, IsLeastRate, IsGreatestRate}
-use Rattle.sk_publishing.specs.Chain.{SegmentView, EndView, IsAllowedStep, IsGridRate, IsNotLater, rounded_up, new_triples}
+use Rattle.sk_publishing.specs.Chain.{SegmentView, IsAllowedStep, IsNotLater, rounded_up, new_triples}
 use Rattle.sk_publishing.specs.Kept.{IsPublication, Sorts}
 use Rattle.sk_publishing.specs.Built.{longer, middle_rate}
-use Rattle.sk_publishing.specs.Laws.{Stops}
 use Rattle.sk_publishing.proofs.Bounds.{meets_from, meets_to, meets_within}
 use Rattle.sk_publishing.proofs.Fitting.{between, middle_meets}
 use Rattle.sk_publishing.proofs.Interval.{least_allowed, greatest_allowed, none_meets, one_greatest, one_least}
@@ -31,10 +30,10 @@ use Rattle.sk_audit.specs.declared.ending.Beginning.{Beginning}
 use Rattle.sk_audit.specs.declared.ending.Due.{Due}
 use Rattle.sk_audit.specs.Claims.{triple_of}
 use Rattle.sk_audit.specs.Given.{IsRate, anchor_of, sight_at}
-use Rattle.sk_audit.specs.Walking.{WalkView, IsWalk, open_of, open_at, gone_on, bounded, begun_at, dropped_at, closed_as}
+use Rattle.sk_audit.specs.Walking.{WalkView, open_of, open_at, gone_on, bounded, begun_at, dropped_at, closed_as}
 use Rattle.sk_audit.specs.Walked.{IsWalked, IsStopped}
 use Rattle.sk_audit.specs.Pairs.{IsRunning}
-use Rattle.sk_audit.specs.Scene.{SceneView, IsScene, terms, all_of, IsNext, IsBuiltTo, Grows, IsHere, RunsOver, LacksRate, IsStop, CanEndAs, IsBeginning, NoneMeets}
+use Rattle.sk_audit.specs.Scene.{SceneView, IsScene, terms, all_of, IsBuiltTo, Grows, IsHere, RunsOver, IsStop, CanEndAs, IsBeginning, NoneMeets}
 use Rattle.sk_audit.specs.Evaluated.{rate_of, rate_so_far, so_far, IsBetween, line_triple, late, begun, IsEvaluated, IsRefuted, IsNextAt, IsDue, beginning_of}
 use Rattle.sk_audit.proofs.Moves.{moves_on_first, moves_on_later, some_front}
 use Rattle.sk_audit.proofs.Ranges.{due_near}
@@ -261,8 +260,10 @@ module _ (scene : SceneView) (n : ℕ) (row : RowView) (w : WalkView) (due : IsN
           none : Passes scene next → ⊥
           none p =
               let e : c ≡ line_triple d.anchor p.rate = first c (line_triple d.anchor p.rate) more p.more (sym is ∙ left_is p) in
-              other (ap (λ (x : TripleView). x.anchor) e,
-              subst (λ (x : ℤ). IsBetween t x d.bounds.least d.bounds.greatest) (sym (ap (λ (x : TripleView). x.rate) e)) (p.between later))
+              other (
+                ap (λ (x : TripleView). x.anchor) e,
+                subst (λ (x : ℤ). IsBetween t x d.bounds.least d.bounds.greatest) (sym (ap (λ (x : TripleView). x.rate) e)) (p.between later),
+              )
             where
               first : (a b : TripleView) (xs ys : List TripleView) → a ∷ xs ≡ b ∷ ys → a ≡ b
               first a b xs ys e = cc
@@ -432,9 +433,10 @@ pub interval_ends : (scene : SceneView) (w : WalkView) (n : ℕ) (h : IsEvaluate
     → IsAllowedStep (terms scene) w.least × IsAllowedStep (terms scene) w.greatest
 interval_ends scene w n h some =
     let t : Terms = terms scene in
-    let i = h.walked.walk.built.interval (some_front w.closed h.walked.walk.front h.walked.walk.tells some) in
-    (least_allowed (IsAllowedStep t) t.gauge (anchor_of w.anchor) h.walked.walk.low h.walked.walk.high w.least w.greatest i.is_low.is_bound i.is_high.is_bound i.filled,
-    greatest_allowed (IsAllowedStep t) t.gauge (anchor_of w.anchor) h.walked.walk.low h.walked.walk.high w.least w.greatest i.is_low.is_bound i.is_high.is_bound i.filled)
+    let i = h.walked.walk.built.interval (some_front w.closed h.walked.walk.front h.walked.walk.tells some) in (
+      least_allowed (IsAllowedStep t) t.gauge (anchor_of w.anchor) h.walked.walk.low h.walked.walk.high w.least w.greatest i.is_low.is_bound i.is_high.is_bound i.filled,
+      greatest_allowed (IsAllowedStep t) t.gauge (anchor_of w.anchor) h.walked.walk.low h.walked.walk.high w.least w.greatest i.is_low.is_bound i.is_high.is_bound i.filled,
+    )
 
 -- the anchor that the line leaves, with the rate so far
 pub anchor_left : (scene : SceneView) (w : WalkView) (anchor : Line) (v : WalkView) (rate : ℤ) → v ≡ w → rate ≡ rate_so_far (terms scene) w

@@ -16,6 +16,7 @@ pub mod Begun
 pub mod Same
 pub mod Claiming
 pub mod Numbers
+pub mod Reading
 pub mod Kept
 pub mod NewTriples
 pub mod Joined

@@ -1,24 +1,22 @@
 -- A publication whose triples are claimed goes on from what is built over the first observations.
-use Rattle.std.proofs.Common.{◌≡◌, ℕ, ◌<◌, List, [], ◌∷◌, ◌++◌, length, length-append, take, drop, map, refl, sym, ap, subst, ◌∙◌, append_assoc, append-nil, arith}
+use Rattle.std.proofs.Common.{◌≡◌, ℕ, ◌<◌, List, [], ◌∷◌, ◌++◌, length, length-append, take, drop, map, refl, sym, ap, subst, ◌∙◌, append_assoc, arith}
 use Rattle.std.specs.Prelude.{ℤ, flat_map, None}
 use Rattle.std.specs.List.{AllByRecursion}
 use Rattle.std.proofs.lemmas.List.{take-append-drop, length-map}
 use Rattle.std.proofs.lemmas.List.Concat.{flat_map-append}
-use Rattle.sk_publishing.specs.Row.{RowView}
-use Rattle.sk_publishing.specs.Terms.{Sight, Terms, sights}
+use Rattle.sk_publishing.specs.Terms.{Sight, Terms}
 use Rattle.sk_line.specs.Triple.{Anchor, TripleView}
 use Rattle.sk_publishing.specs.Meets.{Meets}
 use Rattle.sk_publishing.specs.Rates.{on_grid}
 use Rattle.sk_publishing.specs.Chain.{SegmentView, IsAllowedStep, IsGridRate, IsChain, new_triples}
-use Rattle.sk_publishing.specs.Kept.{Sorts, SortsFrom, IsPublication}
-use Rattle.sk_publishing.specs.Built.{Built}
+use Rattle.sk_publishing.specs.Kept.{Sorts, IsPublication}
 use Rattle.sk_line.proofs.Lists.{all_front, heads, tails}
 use Rattle.sk_publishing.proofs.Bounds.{meets_from, meets_to}
 use Rattle.sk_publishing.proofs.Sorting.{sorts_parts, sorts_same, kept_grows}
 use Rattle.sk_audit.specs.declared.told.Told.{Told}
 use Rattle.sk_audit.specs.Claims.{triple_of}
 use Rattle.sk_audit.specs.Given.{anchor_of}
-use Rattle.sk_audit.specs.Walking.{WalkView, Tell, IsWalk, open_of}
+use Rattle.sk_audit.specs.Walking.{WalkView, Tell, open_of}
 use Rattle.sk_audit.specs.Walked.{IsWalked}
 use Rattle.sk_audit.specs.Scene.{SceneView, terms, all_of}
 use Rattle.sk_audit.specs.Evaluated.{IsBetween, IsRefuted, line_triple, late}

@@ -1,12 +1,12 @@
 -- What a publication of all observations shares with what is built over the first ones: it goes on from it.
-use Rattle.std.proofs.Common.{◌≡◌, ◌<◌, List, [], ◌∷◌, ◌++◌, length, length-append, refl, sym, ap, subst, ◌∙◌, append_assoc, append-nil, arith}
+use Rattle.std.proofs.Common.{◌≡◌, ◌<◌, List, [], ◌∷◌, ◌++◌, length, refl, sym, ap, subst, ◌∙◌, append_assoc, append-nil, arith}
 use Rattle.std.specs.Prelude.{ℤ, Option, Some, None}
 use Rattle.std.specs.List.{AllByRecursion}
 use Rattle.sk_publishing.specs.Terms.{Sight, Terms, partition_at}
 use Rattle.sk_line.specs.Triple.{Anchor}
 use Rattle.sk_publishing.specs.Meets.{Meets}
 use Rattle.sk_publishing.specs.Rates.{IsMiddleRate}
-use Rattle.sk_publishing.specs.Chain.{SegmentView, IsAllowedStep, first_of, covered_by, first_or, EachFollowed, FirstAndLater, EachJoined, ForNext, IsInPartition, IsOldRate, IsGridRate, HasRate, IsMaximal, IsFixed, IsBlocked, IsEnded, anchor_due, IsNotLater, IsChain, BeginsWithOld, LaterCover}
+use Rattle.sk_publishing.specs.Chain.{SegmentView, IsAllowedStep, covered_by, first_or, EachFollowed, FirstAndLater, EachJoined, IsInPartition, IsOldRate, IsGridRate, HasRate, IsMaximal, IsFixed, IsBlocked, IsEnded, anchor_due, IsChain, BeginsWithOld, LaterCover}
 use Rattle.sk_line.proofs.Lists.{all_front, all_back, all_append, Same, First_ends, Second_ends, fronts, heads, tails}
 use Rattle.sk_publishing.proofs.Chains.{chain_extends, due_of, starts}
 use Rattle.sk_publishing.proofs.Sorting.{covered-append}

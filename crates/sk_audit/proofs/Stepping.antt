@@ -1,10 +1,10 @@
 -- A whole number of steps is the quotient by the step.
-use Rattle.std.proofs.Common.{◌≡◌, ◌≢◌, ℕ, ◌<◌, sym, subst, ap, ◌∙◌, arith, refl, negsuc}
+use Rattle.std.proofs.Common.{◌≡◌, ℕ, ◌<◌, sym, subst, ap, ◌∙◌, arith, negsuc}
 use Rattle.std.proofs.lemmas.Int.{ints, by_lt_z}
-use Rattle.std.specs.Prelude.{ℤ, pos, ◌+ℤ◌, ◌-ℤ◌, ◌*ℤ◌, ◌≤ℤ◌, ◌<ℤ◌}
+use Rattle.std.specs.Prelude.{ℤ, pos, ◌+ℤ◌, ◌*ℤ◌, ◌≤ℤ◌, ◌<ℤ◌}
 use Rattle.std.specs.Int.{int_div_euclid, int_rem_euclid}
 use Rattle.sk_decimal.specs.Quotient.{floor_quotient}
-use Rattle.sk_decimal.proofs.Quotients.{floor_below, floor_greatest, ceiling_next}
+use Rattle.sk_decimal.proofs.Quotients.{floor_below, floor_greatest}
 use Rattle.sk_decimal.proofs.Signed.{mul-le_right, add-mul, ≤ℤ-antisym}
 
 pub exact_floor : (z n : ℤ) (d : ℕ) → 0 < d → z ≡ n *ℤ pos d → int_div_euclid z (pos d) ≡ n

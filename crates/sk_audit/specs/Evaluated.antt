@@ -1,10 +1,10 @@
 -- What of claimed triples is evaluated so far, and when no publication has them.
-use Rattle.std.specs.Prelude.{◌≡◌, ◌≢◌, ℕ, ◌+◌, ◌<◌, ℤ, ◌≤ℤ◌, List, [], ◌∷◌, ◌++◌, map, length, Some, slice_get}
+use Rattle.std.specs.Prelude.{◌≡◌, ◌≢◌, ℕ, ◌<◌, ℤ, ◌≤ℤ◌, List, [], ◌∷◌, ◌++◌, map, length, Some, slice_get}
 use Rattle.sk_publishing.specs.Row.{RowView}
 use Rattle.sk_publishing.specs.Terms.{Sight, Terms}
 use Rattle.sk_line.specs.Triple.{TripleView}
 use Rattle.sk_publishing.specs.Rates.{on_grid}
-use Rattle.sk_publishing.specs.Chain.{SegmentView, IsAllowedStep, new_triples}
+use Rattle.sk_publishing.specs.Chain.{SegmentView, new_triples}
 use Rattle.sk_publishing.specs.Kept.{IsPublication}
 use Rattle.sk_publishing.specs.Built.{middle_rate}
 use Rattle.sk_audit.specs.declared.told.Told.{Told}

@@ -82,7 +82,12 @@ impl Walk {
     }
 
     /// The open segment ends with its partition, and the next one begins with the observation as its anchor.
-    pub(crate) fn take_apart(&mut self, scene: &Scene, place: usize, obs: &Observation) -> Result<bool, NoMemory>
+    pub(crate) fn take_apart(
+        &mut self,
+        scene: &Scene,
+        place: usize,
+        obs: &Observation,
+    ) -> Result<bool, NoMemory>
         requires evaluated { IsEvaluated scene.now place self.old }
         requires next { IsNextAt scene.now place obs.now }
         requires away { ¬ IsHere scene.now obs.now self.old }
@@ -108,7 +113,13 @@ impl Walk {
     }
 
     /// The next claimed segment begins where it is due, after one whose claimed rate is the middle one of all that it covers.
-    fn begin_claimed(&mut self, scene: &Scene, place: usize, obs: &Observation, due: Due) -> Result<bool, NoMemory>
+    fn begin_claimed(
+        &mut self,
+        scene: &Scene,
+        place: usize,
+        obs: &Observation,
+        due: Due,
+    ) -> Result<bool, NoMemory>
         requires evaluated { IsEvaluated scene.now place self.old }
         requires next { IsNextAt scene.now place obs.now }
         requires due { IsDue scene.now place obs.now self.old due }

@@ -94,7 +94,12 @@ impl Walk {
     }
 
     /// The next observation is met by the claimed line, or else it begins the next claimed segment or is dropped.
-    fn take_next(&mut self, scene: &Scene, place: usize, obs: &Observation) -> Result<bool, NoMemory>
+    fn take_next(
+        &mut self,
+        scene: &Scene,
+        place: usize,
+        obs: &Observation,
+    ) -> Result<bool, NoMemory>
         requires evaluated { IsEvaluated scene.now place self.old }
         requires next { IsNextAt scene.now place obs.now }
         ensures on { result ≡ Ok true → IsEvaluated scene.now (place + 1) self.new }
@@ -153,7 +158,12 @@ impl Walk {
     }
 
     /// The observation is dropped, where one more may be; else there is no publication.
-    pub(crate) fn drop_or_stop(&mut self, scene: &Scene, place: usize, obs: &Observation) -> Result<bool, NoMemory>
+    pub(crate) fn drop_or_stop(
+        &mut self,
+        scene: &Scene,
+        place: usize,
+        obs: &Observation,
+    ) -> Result<bool, NoMemory>
         requires evaluated { IsEvaluated scene.now place self.old }
         requires next { IsNextAt scene.now place obs.now }
         requires none { LacksRate scene.now place obs.now (so_far (terms scene.now) self.old) }

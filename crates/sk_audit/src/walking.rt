@@ -107,7 +107,11 @@ impl Walk {
 }
 
 /// What is told of the publication whose triples are claimed; `None` exactly where no publication has them.
-pub fn account_of(alloc: Global, scene: &Scene, first_new: usize) -> Result<Option<Account>, NoMemory>
+pub fn account_of(
+    alloc: Global,
+    scene: &Scene,
+    first_new: usize,
+) -> Result<Option<Account>, NoMemory>
     requires within { first_new ≤ length scene.now.rows }
     requires new { AllByRecursion (λ x. first_new ≤ x.place → is_new_in (terms scene.now) x ≡ true) (sights scene.now.rows) }
     requires begun { IsEvaluated scene.now first_new (fresh scene.now.start.old scene.now.start.seam) }

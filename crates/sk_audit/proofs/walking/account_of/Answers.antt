@@ -1,4 +1,4 @@
-use Rattle.std.proofs.Common.{◌≡◌, ◌∙◌, length, sym, subst}
+use Rattle.std.proofs.Common.{◌∙◌, length, sym, subst}
 use Rattle.sk_audit.specs.Scene.{SceneView, terms}
 use Rattle.sk_audit.specs.Walked.{IsWalked}
 use Rattle.sk_audit.specs.Walking.{WalkView}

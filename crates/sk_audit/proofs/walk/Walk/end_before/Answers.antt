@@ -1,4 +1,4 @@
-use Rattle.std.proofs.Common.{◌≡◌, subst, sym, refl}
+use Rattle.std.proofs.Common.{subst, refl}
 use Rattle.std.specs.Prelude.{ℤ}
 use Rattle.sk_publishing.specs.Meets.{Meets}
 use Rattle.sk_publishing.specs.Built.{middle_rate}

@@ -1,14 +1,8 @@
-use Rattle.std.proofs.Common.{◌≡◌, ℕ, ◌^◌, ◌<◌, sym, subst, ap, ◌∙◌, []}
-use Rattle.std.specs.Prelude.{ℤ}
-use Rattle.sk_line.specs.Triple.{Anchor}
-use Rattle.sk_publishing.specs.Row.{RowView}
-use Rattle.sk_publishing.specs.Chain.{rounded_up}
-use Rattle.sk_audit.specs.declared.line.Line.{Line}
-use Rattle.sk_audit.specs.Given.{CanMeet, anchor_of}
-use Rattle.sk_audit.specs.Walking.{WalkView, open_at, open_of}
+use Rattle.std.proofs.Common.{ℕ, ◌^◌, ◌<◌, sym, subst, ap}
+use Rattle.sk_audit.specs.Walking.{WalkView}
 use Rattle.sk_audit.specs.Scene.{SceneView, terms}
-use Rattle.sk_audit.specs.Evaluated.{rate_so_far, so_far}
-use Rattle.sk_audit.proofs.Leaving.{made, left_short, can_meet_left, lacks_rate}
+use Rattle.sk_audit.specs.Evaluated.{so_far}
+use Rattle.sk_audit.proofs.Leaving.{left_short, can_meet_left, lacks_rate}
 use Rattle.sk_audit.proofs.Widen.{between}
 use Rattle.sk_audit.proofs.Evaluating.{built, none_met, due_left, anchor_left}
 use Rattle.sk_audit.proofs.walk.Walk.leave_or_drop.Goals as goal

@@ -1,8 +1,6 @@
 use Rattle.std.proofs.Common.{◌≡◌, rules, sym, subst, ap}
 use mir.Syntax.{w128}
 use mir.Val.{to_z, of_z}
-use Rattle.std.specs.Prelude.{ℤ}
-use Rattle.sk_publishing.specs.Terms.{Terms}
 use Rattle.sk_publishing.specs.Chain.{IsAllowedStep}
 use Rattle.sk_audit.specs.Walking.{WalkView}
 use Rattle.sk_audit.specs.Scene.{terms}

@@ -1,16 +1,15 @@
-use Rattle.std.proofs.Common.{◌≡◌, ℕ, ◌^◌, ◌<◌, sym, subst, ap, ◌∙◌, [], inr, arith}
+use Rattle.std.proofs.Common.{◌≡◌, subst, ap, inr, arith}
 use Rattle.std.specs.Prelude.{ℤ, ◌≤ℤ◌, ◌<ℤ◌}
-use Rattle.sk_publishing.specs.Row.{RowView}
 use Rattle.sk_publishing.specs.Terms.{Sight, Terms}
 use Rattle.sk_publishing.specs.Meets.{line_at, scaled}
 use Rattle.sk_publishing.specs.Chain.{PartitionEnd}
 use Rattle.sk_publishing.proofs.Steps.{ended_as}
 use Rattle.sk_publishing.proofs.Fitting.{has_time_fall, partition_ends}
 use Rattle.sk_audit.specs.declared.line.Line.{Line}
-use Rattle.sk_audit.specs.Given.{CanMeet, anchor_of, sight_at}
+use Rattle.sk_audit.specs.Given.{anchor_of, sight_at}
 use Rattle.sk_audit.specs.Walking.{WalkView, open_of}
-use Rattle.sk_audit.specs.Scene.{SceneView, terms}
-use Rattle.sk_audit.specs.Evaluated.{rate_so_far, so_far}
+use Rattle.sk_audit.specs.Scene.{terms}
+use Rattle.sk_audit.specs.Evaluated.{so_far}
 use Rattle.sk_audit.proofs.Leaving.{can_meet_own}
 use Rattle.sk_audit.proofs.Widen.{after_open, between}
 use Rattle.sk_audit.proofs.Evaluating.{built, stopped, due_anew}
