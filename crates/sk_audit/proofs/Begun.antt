@@ -16,6 +16,8 @@ use Rattle.sk_audit.specs.Given.{band_view}
 use Rattle.sk_audit.specs.Scene.{SceneView, terms}
 use Rattle.sk_audit.specs.Walking.{WalkView, IsWalk, fresh, closed_as, open_of, Tell}
 use Rattle.sk_audit.specs.Walked.{IsStart, IsWalked, IsAccount, AreOldTicks, IsNewTick}
+use Rattle.sk_audit.specs.Evaluated.{IsEvaluated}
+use Rattle.sk_audit.proofs.Evaluating.{so_far_first}
 use Rattle.sk_audit.proofs.Moves.{tell_more, tells_closed}
 use Rattle.sk_audit.proofs.Observed.{news_from, sorts_olds}
 use Rattle.sk_audit.proofs.News.{olds_of, news_of}
@@ -78,4 +80,14 @@ told_all t rows w a h segments dropped = record {
   tells = subst (λ (z : List Told). Tell z (h.walk.front ++ open_of w h.walk.covered ∷ [])) (sym segments)
       (tell_more w.closed h.walk.front (closed_as w Last) (open_of w h.walk.covered) h.walk.tells (tells_closed t w h.walk.covered Last h.walk.last));
   places = dropped ∙ h.walk.places;
+}
+
+-- nothing is evaluated before the first new observation
+pub evaluates : (triples : TriplesView) (scene : SceneView) (n : ℕ) → HasBegun triples scene n → IsEvaluated scene n (fresh scene.start.old scene.start.seam)
+evaluates triples scene n h = record {
+  walked = subst (IsWalked (terms scene) scene.rows n) (sym (so_far_first (terms scene) (fresh scene.start.old scene.start.seam) refl)) (begun triples scene n h);
+  held = λ some. absurd (omega (arith, some));
+  good = record { positive = h.start.triple.positive; slow = h.start.triple.slow };
+  left = scene.claims;
+  claimed = refl;
 }

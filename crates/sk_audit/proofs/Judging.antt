@@ -10,27 +10,33 @@ use Rattle.sk_line.specs.Line.{covering, covering_from}
 use Rattle.sk_clock.specs.Clock.{ClockView, total}
 use Rattle.sk_grammar.specs.declared.value.Value.{Value}
 use Rattle.sk_grammar.specs.declared.value.Op.TheVariants.{Append}
-use Rattle.sk_grammar.specs.Document.{ItemView, BlockView, IsItem, IsValue}
+use Rattle.sk_grammar.specs.Document.{ItemView, BlockView, DocView, IsItem, IsValue}
 use Rattle.sk_publishing.specs.Row.{RowView, AreRows}
 use Rattle.sk_publishing.specs.Terms.{Sight, sights, seam}
-use Rattle.sk_publishing.specs.Kept.{is_new}
-use Rattle.sk_publishing.specs.Input.{Input, Begins}
+use Rattle.sk_publishing.specs.Kept.{is_new, IsPublication}
+use Rattle.sk_publishing.specs.Input.{Input, HasLast, Begins}
 use Rattle.sk_publishing.specs.Chain.{new_triples}
 use Rattle.sk_publishing.specs.Table.{ChainView, kernel_view, table_lines}
 use Rattle.sk_publishing.specs.Published.{id_items, coefficient_items}
-use Rattle.sk_triples.specs.Kernel.{TriplesView}
+use Rattle.sk_triples.specs.Kernel.{TriplesView, AreKept, AreOf}
 use Rattle.sk_audit.specs.declared.settings.AuditSettings.{AuditSettings}
 use Rattle.sk_audit.specs.declared.walking.Account.{Account}
 use Rattle.sk_audit.specs.declared.marks.Marks.{Marks}
 use Rattle.sk_audit.specs.declared.table.Table.{Table}
-use Rattle.sk_audit.specs.Audit.{Audit, HasItems, HasChain, IsFirstDifference, table_of, input_of}
+use Rattle.sk_audit.specs.Audit.{Audit, HasItems, HasChain, IsFirstDifference, table_of, input_of, audit_of}
 use Rattle.sk_audit.specs.Claimed.{IsNewKernel}
-use Rattle.sk_audit.specs.Given.{terms_of, sight_at}
+use Rattle.sk_audit.specs.Given.{AreSettings, IsSmallClock, terms_of, sight_at}
 use Rattle.sk_audit.specs.Items.{AreItems}
 use Rattle.sk_audit.specs.Marks.{IsMarked, AreEnds, Tells}
 use Rattle.sk_audit.specs.Tables.{lines_of}
 use Rattle.sk_audit.specs.Walked.{AreOldTicks, IsNewTick}
-use Rattle.sk_audit.proofs.Deciding.{IsEarly}
+use Rattle.sk_audit.specs.Evaluated.{IsRefuted}
+use Rattle.sk_audit.specs.Read.{AreOfNone, AreReadAs}
+use Rattle.sk_audit.specs.Scene.{SceneView}
+use Rattle.sk_publication.specs.Publication.{HasNumbers}
+use Rattle.sk_publication.proofs.NewTriples.{new_numbers}
+use Rattle.sk_audit.proofs.NewTriples.{new_kernel}
+use Rattle.sk_audit.proofs.Deciding.{IsEarly, one_last}
 use Rattle.sk_audit.proofs.Lining.{table_same}
 use Rattle.sk_audit.proofs.Marking.{they_tell}
 use Rattle.sk_audit.proofs.News.{olds_of, news_of}
@@ -135,3 +141,33 @@ module _ (a : Audit) (settings : AuditSettings) (triples : TriplesView) (old : T
 
     pub text_differs : (text : List (List ℕ)) (line : ℕ) → IsFirstDifference text (lines_of t) line → IsFirstDifference text (table_of a chain_of) line
     text_differs text line differs = subst (λ (ls : List (List ℕ)). IsFirstDifference text ls line) is_table differs
+
+-- ---- claims that no publication has
+
+module _ (old_doc new_doc : DocView) (clock : ClockView) (triples : TriplesView) (sc : ℕ) (rows : List RowView) (settings : AuditSettings) (old : TripleView) (values : List Value)
+    (given : AreSettings settings) (small : IsSmallClock clock) (kept : AreKept triples) (of_clock : AreOf clock triples) (are : AreRows (total clock) rows)
+    (is_last : HasLast (input_of triples clock rows settings) old) where
+  abbrev audited : Audit
+  audited = audit_of old_doc new_doc clock triples sc rows settings
+
+  published : (chain : ChainView) (h : HasChain audited values chain) → IsPublication (terms_of settings clock old) (sights rows) h.dropped chain.segments
+  published chain h =
+      let last : h.last ≡ old = one_last audited.input h.last old h.is_last is_last in
+      subst (λ (l : TripleView). IsPublication (terms_of settings clock l) (sights rows) h.dropped chain.segments) last h.publication
+
+  numbers : (chain : ChainView) (h : HasChain audited values chain) → All HasNumbers (new_triples chain.segments)
+  numbers chain h = new_numbers triples.total triples.triples (new_triples chain.segments) kept.total
+      (new_kernel triples clock rows settings is_last.0 old h.dropped chain.segments given small kept of_clock are is_last.1 (published chain h) h.few)
+
+  pub none_claimed : AreOfNone values → (chain : ChainView) → ¬ HasChain audited values chain
+  none_claimed none chain h = none (new_triples chain.segments) (numbers chain h) h.values_are
+
+  pub refuted_claims : (scene : SceneView) (claims : List TripleView) → scene.clock ≡ clock → scene.settings ≡ settings → scene.rows ≡ rows → scene.start.old ≡ old → scene.claims ≡ claims
+      → AreReadAs values claims → IsRefuted scene → (chain : ChainView) → ¬ HasChain audited values chain
+  refuted_claims scene claims p q r s u reads refuted chain h =
+      refuted h.dropped chain.segments
+      (subst (λ (c : ClockView). IsPublication (terms_of scene.settings c scene.start.old) (sights scene.rows) h.dropped chain.segments) (sym p)
+      (subst (λ (x : AuditSettings). IsPublication (terms_of x clock scene.start.old) (sights scene.rows) h.dropped chain.segments) (sym q)
+      (subst (λ (xs : List RowView). IsPublication (terms_of settings clock scene.start.old) (sights xs) h.dropped chain.segments) (sym r)
+      (subst (λ (l : TripleView). IsPublication (terms_of settings clock l) (sights rows) h.dropped chain.segments) (sym s) (published chain h)))))
+      (reads (new_triples chain.segments) (numbers chain h) h.values_are ∙ sym u)

@@ -16,6 +16,7 @@ pub mod Begun
 pub mod Same
 pub mod Claiming
 pub mod Numbers
+pub mod Reading
 pub mod Kept
 pub mod NewTriples
 pub mod Joined
@@ -26,5 +27,9 @@ pub mod Early
 pub mod Deciding
 pub mod Differing
 pub mod Lining
+pub mod Shared
+pub mod Passing
+pub mod Stepping
+pub mod Evaluating
 pub mod Comparing
 pub mod Judging

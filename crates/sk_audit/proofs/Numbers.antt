@@ -48,7 +48,7 @@ no_true h = cc
 
 -- ---- triples, one after the other
 
-cancel : (xs ys zs : List Value) → xs ++ ys ≡ xs ++ zs → ys ≡ zs
+pub cancel : (xs ys zs : List Value) → xs ++ ys ≡ xs ++ zs → ys ≡ zs
 cancel [] ys zs e = e
 cancel (x ∷ xs) ys zs e = cancel xs ys zs (tail e)
   where

@@ -2,6 +2,7 @@
 use Rattle.std.specs.Prelude.{◌≡◌, ℕ, ◌+◌, ◌*◌, ◌^◌, ◌<◌, ◌≤◌, ℤ, pos, neg_ℤ, ◌≤ℤ◌, List, true}
 use Rattle.sk_publishing.specs.Row.{RowView, AreRows}
 use Rattle.sk_clock.specs.Clock.{ClockView, total}
+use Rattle.sk_line.specs.Triple.{TripleView}
 use Rattle.sk_publishing.specs.Terms.{Sight, Terms, partition_at, sights}
 use Rattle.sk_publishing.specs.Meets.{Meets}
 use Rattle.sk_publishing.specs.Rates.{IsBand, IsLeastRate, IsGreatestRate, on_grid}
@@ -24,6 +25,11 @@ pub record SceneView : Type 0 where
   pub clock : ClockView
   pub start : Start
   pub rows : List RowView
+  pub claims : List TripleView
+
+-- where these triples are claimed
+abbrev pub claiming : SceneView → List TripleView → SceneView
+claiming scene claims = record scene { claims = claims }
 
 abbrev pub terms : SceneView → Terms
 terms scene = terms_of scene.settings scene.clock scene.start.old

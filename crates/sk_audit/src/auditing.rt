@@ -15,7 +15,7 @@ ghost use Rattle.sk_audit.specs.Given.{AreSettings};
 ghost use Rattle.sk_audit.specs.Scene.{IsScene, terms};
 ghost use Rattle.sk_audit.specs.Walked.{IsAccount};
 
-use crate::claims::{are_claimed, triples_of};
+use crate::claims::{are_claimed, triples_claimed, triples_of};
 use crate::items::claimed;
 use crate::marks::marks_of;
 use crate::scene::Scene;
@@ -108,7 +108,10 @@ pub fn audit(
     };
     let first_new = first_new_of(clock, &start, observations);
     let scene = Scene::new(clock, *settings, start, observations);
-    let Some(account) = account_of(alloc, &scene, first_new)? else {
+    let Some(claims) = triples_claimed(alloc, values)? else {
+        return Ok(Verdict::No(AuditFault::Chain));
+    };
+    let Some(account) = account_of(alloc, &scene.claiming(claims.as_slice()), first_new)? else {
         return Ok(Verdict::No(AuditFault::Chain));
     };
     let Some(kernel) = scene.new_kernel(alloc, triples, &account, values)? else {

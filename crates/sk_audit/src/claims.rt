@@ -1,11 +1,13 @@
 //! Whether numbers claim the triples of a publication.
 
-ghost use Rattle.std.specs.Prelude.{◌≡◌, ◌↔◌, ◌≤◌, ◌<◌, ◌^◌, IfOk, IsTrue, All, flat_map, map, length, nat_abs, pos};
+ghost use Rattle.std.specs.Prelude.{◌≡◌, ◌↔◌, ◌≤◌, ◌<◌, ◌^◌, IfOk, IsTrue, All, flat_map, map, length, nat_abs, pos, ℕ, ℤ, Some, IfSome, IfNone};
 ghost use Rattle.sk_grammar.specs.Document.{IsValue};
 ghost use Rattle.sk_grammar.specs.declared.value.Value.TheVariants.{Number};
 ghost use Rattle.sk_publication.specs.Publication.{HasNumbers};
 ghost use Rattle.sk_publishing.specs.Published.{reduced, triple_values};
 ghost use Rattle.sk_audit.specs.Claims.{triple_of};
+ghost use Rattle.sk_audit.specs.Read.{AreOfNone, AreReadAs};
+ghost use Rattle.sk_line.specs.Triple.{TripleView};
 
 use crate::told::Told;
 use sk_checks::NoMemory;
@@ -118,4 +120,62 @@ pub fn are_claimed(values: &[Value], triples: &[Triple]) -> bool
         rest = behind;
     }
     rest.is_empty()
+}
+
+// The ticks that a value says, where it says some.
+fn ticks_of(value: &Value) -> Option<u64>
+    requires { IsValue value.now }
+    ensures { (ticks : ℕ) → ticks < 2 ^ 64 → value.now ≡ Number (reduced 0 (pos ticks)) → result ≡ Some ticks }
+{
+    let Value::Number(number) = value else {
+        return None;
+    };
+    let fixed = number.to_fixed::<0>()?;
+    u64::try_from(fixed.units).ok()
+}
+
+// The seconds that a value says, where it says some.
+fn seconds_of(value: &Value) -> Option<Fixed<18>>
+    requires { IsValue value.now }
+    ensures { (units : ℤ) → nat_abs units < 2 ^ 127 → value.now ≡ Number (reduced 18 units) → result ≡ Some (record { units = units }) }
+{
+    let Value::Number(number) = value else {
+        return None;
+    };
+    number.to_fixed::<18>()
+}
+
+// The triple that three values say, where they say one.
+fn read_triple(values: &[Value]) -> Option<Triple>
+    requires { All IsValue values.now }
+    ensures { (triple : TripleView) → HasNumbers triple → values.now ≡ triple_values triple → result ≡ Some triple }
+{
+    match values {
+        [first, second, third] => {
+            let ticks = ticks_of(first)?;
+            let time = seconds_of(second)?;
+            let rate = seconds_of(third)?;
+            Some(Triple { ticks, time, rate })
+        }
+        _ => None,
+    }
+}
+
+/// The triples that the values say; `None` only where they are those of no triples.
+pub fn triples_claimed(alloc: Global, values: &[Value]) -> Result<Option<Vec<Triple>>, NoMemory>
+    requires { All IsValue values.now }
+    ensures some { IfOk result (λ read. IfSome read (λ claims. AreReadAs values.now claims.items)) }
+    ensures none { IfOk result (λ read. IfNone read (AreOfNone values.now)) }
+{
+    let mut claims = Vec::new(alloc);
+    let mut rest = values;
+    while rest.len() >= 3 {
+        let (three, behind) = rest.split_at(3);
+        let Some(triple) = read_triple(three) else {
+            return Ok(None);
+        };
+        claims.push(triple)?;
+        rest = behind;
+    }
+    Ok(Some(claims))
 }

@@ -1,11 +1,10 @@
-//! The open segment ends at an observation, and another one begins with it.
+//! The open segment ends at an observation, and the next claimed one begins with it.
 
-ghost use Rattle.std.specs.Prelude.{◌≡◌, ◌+◌, ◌^◌, ◌<◌, ◌≤◌, OnOk, OnErr, IfSome, IfNone, true, false, Ok, ◌≢◌, []};
-ghost use Rattle.sk_clock.specs.Clock.{ticks_per};
-ghost use Rattle.sk_publishing.specs.Chain.{IsNotLater, rounded_up};
-ghost use Rattle.sk_audit.specs.Given.{CanMeet, HoldsLine, IsRate, anchor_of, sight_at};
-ghost use Rattle.sk_audit.specs.Walking.{begun_at, open_of};
-ghost use Rattle.sk_audit.specs.Scene.{terms, IsNext, IsBuiltTo, Grows, IsHere, CanEndAs, LacksRate, IsBeginning, NoneMeets};
+ghost use Rattle.std.specs.Prelude.{◌≡◌, ◌↔◌, ◌+◌, OnOk, OnErr, IsTrue, true, false, Ok};
+ghost use Rattle.sk_audit.specs.Given.{anchor_of};
+ghost use Rattle.sk_audit.specs.Walking.{begun_at};
+ghost use Rattle.sk_audit.specs.Scene.{terms, IsHere, CanEndAs};
+ghost use Rattle.sk_audit.specs.Evaluated.{IsEvaluated, IsRefuted, IsNextAt, IsDue, so_far};
 
 use crate::anchors::anchored_at;
 use crate::line::{Bounds, Line};
@@ -15,6 +14,7 @@ use crate::walk::Walk;
 use sk_checks::NoMemory;
 use sk_decimal::Fixed;
 use sk_obs::Observation;
+use sk_triples::Triple;
 
 /// The line of a segment that begins, and the bounds that its first observation sets.
 #[derive(Clone, Copy)]
@@ -24,108 +24,144 @@ pub struct Beginning {
     pub bounds: Bounds,
 }
 
-/// The segment that begins at an anchor with an observation; `None` where no allowed rate meets it.
-fn beginning_at(scene: &Scene, anchor: Line, obs: &Observation) -> Option<Beginning>
-    requires { CanMeet scene.now.clock anchor obs.now }
-    ensures some { IfSome result (IsBeginning (terms scene.now) (sight_at 0 obs.now)) }
-    ensures same { IfSome result (λ b. b.anchor ≡ anchor) }
-    ensures none { IfNone result (NoneMeets (terms scene.now) anchor (sight_at 0 obs.now)) }
+/// Why the open segment ends, and the anchor that is due for the next one, with the bounds that its first observation
+/// sets.
+#[derive(Clone, Copy)]
+pub struct Due {
+    pub ended: End,
+    pub anchor: Line,
+    pub bounds: Bounds,
+}
+
+/// The triple begins at the anchor.
+fn begins_at(triple: &Triple, anchor: Line) -> bool
+    ensures { IsTrue result ↔ (triple.now.anchor ≡ anchor_of anchor) }
 {
-    let bounds = scene.bounds(anchor, obs);
-    if bounds.is_empty() {
-        return None;
-    }
-    let rate = scene.middle_rate(bounds);
-    Some(Beginning {
-        anchor,
-        rate,
-        bounds,
-    })
+    triple.ticks == anchor.ticks && triple.time.units == anchor.time.units
+}
+
+/// The rates are the same.
+pub(crate) fn are_same(a: Fixed<18>, b: Fixed<18>) -> bool
+    ensures { IsTrue result ↔ (a.units ≡ b.units) }
+{
+    a.units == b.units
 }
 
 impl Walk {
-    /// The open segment ends in its partition and another one begins; `false` where no allowed rate meets the observation.
-    pub(crate) fn leave_here(
+    /// The open segment ends in its partition and the next one begins, or the observation is dropped.
+    pub(crate) fn leave_or_drop(
         &mut self,
         scene: &Scene,
         place: usize,
         obs: &Observation,
         ended: End,
     ) -> Result<bool, NoMemory>
-        requires built { IsBuiltTo scene.now place self.old }
-        requires next { IsNext scene.now place obs.now }
+        requires evaluated { IsEvaluated scene.now place self.old }
+        requires next { IsNextAt scene.now place obs.now }
         requires here { IsHere scene.now obs.now self.old }
-        requires ends { CanEndAs scene.now place obs.now self.old ended }
-        ensures began { result ≡ Ok true → Grows scene.now place obs.now self.old self.new }
-        ensures stays { result ≢ Ok true → self.new ≡ self.old }
-        ensures none { result ≡ Ok false → LacksRate scene.now place obs.now self.old }
+        requires ends { CanEndAs scene.now place obs.now (so_far (terms scene.now) self.old) ended }
+        ensures on { result ≡ Ok true → IsEvaluated scene.now (place + 1) self.new }
+        ensures refuted { result ≡ Ok false → IsRefuted scene.now }
     {
-        let anchor = self.left_anchor(scene);
-        let Some(beginning) = beginning_at(scene, anchor, obs) else {
+        let rate = self.rate_so_far(scene);
+        let anchor = scene.anchor_on(self.anchor, rate, self.leave_tick);
+        let bounds = scene.bounds(anchor, obs);
+        if bounds.is_empty() {
+            return self.drop_or_stop(scene, place, obs);
+        }
+        self.begin_claimed(
+            scene,
+            place,
+            obs,
+            Due {
+                ended,
+                anchor,
+                bounds,
+            },
+        )
+    }
+
+    /// The open segment ends with its partition, and the next one begins with the observation as its anchor.
+    pub(crate) fn take_apart(
+        &mut self,
+        scene: &Scene,
+        place: usize,
+        obs: &Observation,
+    ) -> Result<bool, NoMemory>
+        requires evaluated { IsEvaluated scene.now place self.old }
+        requires next { IsNextAt scene.now place obs.now }
+        requires away { ¬ IsHere scene.now obs.now self.old }
+        ensures on { result ≡ Ok true → IsEvaluated scene.now (place + 1) self.new }
+        ensures refuted { result ≡ Ok false → IsRefuted scene.now }
+    {
+        let rate = self.rate_so_far(scene);
+        if scene.is_late(self.anchor, rate, obs) {
+            return Ok(false);
+        }
+        let anchor = anchored_at(obs);
+        let bounds = scene.bounds(anchor, obs);
+        self.begin_claimed(
+            scene,
+            place,
+            obs,
+            Due {
+                ended: End::Partition,
+                anchor,
+                bounds,
+            },
+        )
+    }
+
+    /// The next claimed segment begins where it is due, after one whose claimed rate is the middle one of all that it covers.
+    fn begin_claimed(
+        &mut self,
+        scene: &Scene,
+        place: usize,
+        obs: &Observation,
+        due: Due,
+    ) -> Result<bool, NoMemory>
+        requires evaluated { IsEvaluated scene.now place self.old }
+        requires next { IsNextAt scene.now place obs.now }
+        requires due { IsDue scene.now place obs.now self.old due }
+        ensures on { result ≡ Ok true → IsEvaluated scene.now (place + 1) self.new }
+        ensures refuted { result ≡ Ok false → IsRefuted scene.now }
+    {
+        if !are_same(self.rate_so_far(scene), self.rate) {
+            return Ok(false);
+        }
+        let Some(claim) = scene.claim(self.closed.len()) else {
             return Ok(false);
         };
-        match self.begin(ended, beginning, place, obs.tick) {
+        if !begins_at(&claim, due.anchor) {
+            return Ok(false);
+        }
+        if !scene.is_between(claim.rate, due.bounds) {
+            return Ok(false);
+        }
+        match self.begin(due, claim.rate, place, obs.tick) {
             Ok(()) => Ok(true),
             Err(fault) => Err(fault),
         }
     }
 
-    /// The open segment ends with its partition, and another one begins with the observation as its anchor.
-    pub(crate) fn leave_apart(
-        &mut self,
-        scene: &Scene,
-        place: usize,
-        obs: &Observation,
-    ) -> Result<(), NoMemory>
-        requires built { IsBuiltTo scene.now place self.old }
-        requires next { IsNext scene.now place obs.now }
-        requires away { ¬ IsHere scene.now obs.now self.old }
-        requires not_late { IsNotLater (terms scene.now) (open_of self.old []) (sight_at place obs.now) }
-        ensures ok { OnOk result (Grows scene.now place obs.now self.old self.new) }
-        ensures err { OnErr result (self.new ≡ self.old) }
-    {
-        let Some(beginning) = beginning_at(scene, anchored_at(obs), obs) else {
-            unreachable!();
-        };
-        self.begin(End::Partition, beginning, place, obs.tick)?;
-        Ok(())
-    }
-
-    /// The anchor that the open segment leaves where its line is left.
-    fn left_anchor(&self, scene: &Scene) -> Line
-        requires line { HoldsLine (ticks_per scene.now.clock) self.now.anchor }
-        requires rate { IsRate self.now.rate.units }
-        requires ahead { self.now.anchor.ticks ≤ self.now.leave_tick }
-        requires short { self.now.leave_tick < 2 ^ 53 }
-        ensures { anchor_of result ≡ record { ticks = self.now.leave_tick; time = rounded_up (terms scene.now) (open_of self.now []) self.now.leave_tick } }
-    {
-        scene.anchor_on(self.anchor, self.rate, self.leave_tick)
-    }
-
     /// The open segment ends, and another one begins with a place.
-    fn begin(
-        &mut self,
-        ended: End,
-        beginning: Beginning,
-        place: usize,
-        tick: u64,
-    ) -> Result<(), NoMemory>
-        ensures ok { OnOk result (self.new ≡ begun_at self.old ended beginning place tick) }
+    fn begin(&mut self, due: Due, rate: Fixed<18>, place: usize, tick: u64) -> Result<(), NoMemory>
+        ensures ok { OnOk result (self.new ≡ begun_at self.old due.ended (record { anchor = due.anchor; rate = rate; bounds = due.bounds }) place tick) }
         ensures err { OnErr result (self.new ≡ self.old) }
     {
         let told = Told {
             anchor: self.anchor,
             rate: self.rate,
             place: self.last,
-            ended,
+            ended: due.ended,
         };
         self.closed.push(told)?;
-        self.anchor = beginning.anchor;
-        self.rate = beginning.rate;
+        self.anchor = due.anchor;
+        self.rate = rate;
         self.last = Some(place);
         self.leave_tick = tick;
-        self.least = beginning.bounds.least;
-        self.greatest = beginning.bounds.greatest;
+        self.least = due.bounds.least;
+        self.greatest = due.bounds.greatest;
         self.least_place = place;
         self.greatest_place = place;
         Ok(())

@@ -1,7 +1,9 @@
 //! Products and quotients of 128 bits.
 
-ghost use Rattle.std.specs.Prelude.{◌≡◌, ◌↔◌, IsTrue, ◌-◌, ◌*◌, ◌^◌, ◌<◌, ◌≤◌, ℤ, pos, neg_ℤ, ◌+ℤ◌, ◌-ℤ◌, ◌*ℤ◌, ◌≤ℤ◌, ◌<ℤ◌};
+ghost use Rattle.std.specs.Prelude.{◌≡◌, ◌↔◌, IsTrue, false, ◌-◌, ◌*◌, ◌^◌, ◌<◌, ◌≤◌, ℤ, pos, neg_ℤ, ◌+ℤ◌, ◌-ℤ◌, ◌*ℤ◌, ◌≤ℤ◌, ◌<ℤ◌};
 ghost use Rattle.sk_decimal.specs.Quotient.{floor_quotient, ceiling_quotient};
+
+use crate::line::Bounds;
 
 /// Time units as 10^-18 s.
 pub fn in_seconds(time: i128) -> i128
@@ -112,4 +114,20 @@ pub fn is_less(a: i128, b: i128) -> bool
     ensures { IsTrue result ↔ (a <ℤ b) }
 {
     a < b
+}
+
+/// The number is a whole number of steps, from the least to the greatest.
+pub fn is_step_between(step: u64, number: i128, bounds: Bounds) -> bool
+    requires positive { 0 < step }
+    ensures yes { IsTrue result → (n : ℤ) × (number ≡ n *ℤ pos step) × (bounds.least ≤ℤ n) × (n ≤ℤ bounds.greatest) }
+    ensures no { result ≡ false → (n : ℤ) → number ≡ n *ℤ pos step → bounds.least ≤ℤ n → ¬ (n ≤ℤ bounds.greatest) }
+{
+    let steps = number.div_euclid(step as i128);
+    if number.rem_euclid(step as i128) != 0 {
+        return false;
+    }
+    if steps < bounds.least {
+        return false;
+    }
+    steps <= bounds.greatest
 }

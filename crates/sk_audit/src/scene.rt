@@ -1,6 +1,6 @@
-//! What a walk goes by: all that it reads and never changes.
+//! What a walk goes by: all that it reads and never changes, the claims among it.
 
-ghost use Rattle.std.specs.Prelude.{◌≡◌, ◌↔◌, ◌+◌, ◌<◌, ◌≤◌, ◌^◌, ◌≤ℤ◌, ◌<ℤ◌, IsTrue, true, length, slice_get, Some, []};
+ghost use Rattle.std.specs.Prelude.{◌≡◌, ◌↔◌, ◌+◌, ◌<◌, ◌≤◌, ◌^◌, ◌≤ℤ◌, ◌<ℤ◌, IsTrue, true, false, length, slice_get, Some, []};
 ghost use Rattle.sk_clock.specs.Clock.{total, ticks_per as ticks_per_of, partition_at};
 ghost use Rattle.sk_publishing.specs.Meets.{Meets, line_at as line_of, scaled as scaled_time};
 ghost use Rattle.sk_publishing.specs.Rates.{IsLeastRate, IsGreatestRate};
@@ -9,27 +9,30 @@ ghost use Rattle.sk_publishing.specs.Kept.{is_new};
 ghost use Rattle.sk_publishing.specs.Built.{middle_rate as middle_of};
 ghost use Rattle.sk_audit.specs.Given.{CanMeet, HoldsLine, IsRate, anchor_of, sight_at};
 ghost use Rattle.sk_audit.specs.Walking.{open_at};
-ghost use Rattle.sk_audit.specs.Scene.{IsScene, IsNext, terms};
+ghost use Rattle.sk_audit.specs.Scene.{IsScene, IsNext, claiming, terms};
+ghost use Rattle.sk_audit.specs.Evaluated.{IsBetween};
 
 use crate::anchors::{line_at, middle_rate, rounded_up};
 use crate::line::{Bounds, Line};
 use crate::partitions::are_together;
-use crate::products::{is_less, scaled};
+use crate::products::{grid, is_less, is_step_between, scaled};
 use crate::rates::{bounds, meets};
 use crate::settings::AuditSettings;
 use crate::start::Start;
 use sk_clock::Clock;
 use sk_decimal::Fixed;
 use sk_obs::Observation;
+use sk_triples::Triple;
 use std::marker::Model;
 
-/// The clock, the settings, the start and the observations of a walk.
+/// The clock, the settings, the start, the observations and the claimed triples of a walk.
 #[derive(Drop)]
 pub struct Scene<'a> {
     clock: &'a Clock,
     settings: AuditSettings,
     start: Start,
     observations: &'a [Observation],
+    claims: &'a [Triple],
 }
 
 impl<'a> Model for Scene<'a> {
@@ -37,28 +40,57 @@ impl<'a> Model for Scene<'a> {
 
     ghost Value = { SceneView };
 
-    ghost view = { λ f. record { settings = f.settings; clock = f.clock.now; start = f.start; rows = f.observations.now } };
+    ghost view = { λ f. record { settings = f.settings; clock = f.clock.now; start = f.start; rows = f.observations.now; claims = f.claims.now } };
 
-    ghost invariant = { λ f. IsScene (record { settings = f.settings; clock = f.clock.now; start = f.start; rows = f.observations.now }) };
+    ghost invariant = { λ f. IsScene (record { settings = f.settings; clock = f.clock.now; start = f.start; rows = f.observations.now; claims = f.claims.now }) };
 }
 
 impl<'a> Scene<'a> {
-    /// A scene of settings in their ranges and a band that is that of the allowed rates.
+    /// A scene of settings in their ranges and a band that is that of the allowed rates, where no triple is claimed.
     pub fn new(
         clock: &'a Clock,
         settings: AuditSettings,
         start: Start,
         observations: &'a [Observation],
     ) -> Scene<'a>
-        requires { IsScene (record { settings = settings; clock = clock.now; start = start; rows = observations.now }) }
-        ensures { result ≡ record { settings = settings; clock = clock.entry.now; start = start; rows = observations.entry.now } }
+        requires { IsScene (record { settings = settings; clock = clock.now; start = start; rows = observations.now; claims = [] }) }
+        ensures { result ≡ record { settings = settings; clock = clock.entry.now; start = start; rows = observations.entry.now; claims = [] } }
     {
         Scene {
             clock,
             settings,
             start,
             observations,
+            claims: &[],
         }
+    }
+
+    /// The same scene, where these triples are claimed.
+    pub fn claiming(&self, claims: &'a [Triple]) -> Scene<'a>
+        ensures { result ≡ claiming self.now claims.entry.now }
+    {
+        Scene {
+            clock: self.clock,
+            settings: self.settings,
+            start: self.start,
+            observations: self.observations,
+            claims,
+        }
+    }
+
+    /// The claimed triple of a number, from 0, where there are so many.
+    pub fn claim(&self, number: usize) -> Option<Triple>
+        ensures { result ≡ slice_get self.now.claims number }
+    {
+        let claims = self.claims;
+        claims.get(number).copied()
+    }
+
+    /// How many triples are claimed.
+    pub fn claim_count(&self) -> usize
+        ensures { result ≡ length self.now.claims }
+    {
+        self.claims.len()
     }
 
     /// What new triples go on from.
@@ -145,6 +177,14 @@ impl<'a> Scene<'a> {
             ticks: tick,
             time: Fixed { units },
         }
+    }
+
+    /// The rate is a step of the grid between these two.
+    pub fn is_between(&self, rate: Fixed<18>, bounds: Bounds) -> bool
+        ensures yes { IsTrue result → IsBetween (terms self.now) rate.units bounds.least bounds.greatest }
+        ensures no { result ≡ false → ¬ IsBetween (terms self.now) rate.units bounds.least bounds.greatest }
+    {
+        is_step_between(grid(self.settings.rate_decimals), rate.units, bounds)
     }
 
     /// The line is later than the observation.

@@ -3,7 +3,7 @@
 ghost use Rattle.std.specs.Prelude.{◌≡◌, ◌⊎◌, ◌≢◌, ◌↔◌, ◌<◌, ◌≤◌, IfSome, IfNone, List, IsTrue};
 ghost use Rattle.sk_clock.specs.Clock.{total, partition_at, IsClock};
 ghost use Rattle.sk_publishing.specs.Row.{RowView};
-ghost use Rattle.sk_triples.specs.Kernel.{AreOf};
+ghost use Rattle.sk_triples.specs.Kernel.{AreKept, AreOf};
 ghost use Rattle.sk_audit.specs.Given.{AreSettings, band_view};
 ghost use Rattle.sk_audit.specs.Audit.{input_of};
 ghost use Rattle.sk_audit.specs.Walked.{HasBadTerms, IsStart};
@@ -40,6 +40,7 @@ pub fn start_of(triples: &Triples, clock: &Clock, settings: &AuditSettings) -> O
     requires triples { AreOf clock.now triples.now }
     requires settings { AreSettings settings.now }
     ensures some { IfSome result (λ s. IsStart triples.now clock.now settings.now s.old (band_view s.band) s.seam) }
+    ensures kept { AreKept triples.now }
     ensures none { IfNone result ((rows : List RowView) → HasBadTerms (input_of triples.now clock.now rows settings.now)) }
 {
     let list = triples.list();

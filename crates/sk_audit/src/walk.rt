@@ -1,14 +1,15 @@
-//! What is built of a publication so far, and what an observation more does to it.
+//! What is evaluated of claimed triples so far, and what an observation more does to it.
 
-ghost use Rattle.std.specs.Prelude.{◌≡◌, ◌+◌, ◌++◌, ◌∷◌, ◌^◌, IfOk, ◌<◌, OnOk, OnErr, true, false, Ok, ◌≢◌, [], length, slice_get, Some};
+ghost use Rattle.std.specs.Prelude.{◌≡◌, ◌+◌, ◌++◌, ◌∷◌, ◌^◌, ◌<◌, IfOk, IfSome, IfNone, OnOk, OnErr, IsTrue, true, false, Ok, ◌≢◌, [], length, slice_get, Some};
 ghost use Rattle.sk_publishing.specs.Row.{RowView};
 ghost use Rattle.sk_publishing.specs.Kept.{is_new};
-ghost use Rattle.sk_audit.specs.Given.{sight_at};
-ghost use Rattle.sk_audit.specs.Walking.{fresh, dropped_at};
-ghost use Rattle.sk_audit.specs.Walked.{IsWalked, IsStopped};
-ghost use Rattle.sk_audit.specs.Scene.{terms, IsNext, IsBuiltTo, Grows, IsHere, LacksRate, LetsTimeFall, IsStop};
+ghost use Rattle.sk_publishing.specs.Meets.{Meets};
+ghost use Rattle.sk_audit.specs.Given.{IsRate, anchor_of, sight_at};
+ghost use Rattle.sk_audit.specs.Walking.{fresh, dropped_at, gone_on};
+ghost use Rattle.sk_audit.specs.Scene.{terms, IsHere, LacksRate, CanEndAs};
+ghost use Rattle.sk_audit.specs.Evaluated.{IsEvaluated, IsRefuted, IsNextAt, Evaluates, rate_so_far, so_far};
 
-use crate::line::Line;
+use crate::line::{Bounds, Line};
 use crate::scene::Scene;
 use crate::start::Start;
 use crate::told::{End, Told};
@@ -18,18 +19,19 @@ use sk_obs::Observation;
 use std::alloc::Global;
 use std::marker::Model;
 
-/// What is built of a publication so far: what is told of the segments that ended, the open one, and the places that
-/// are dropped.
+/// What is evaluated so far: what is told of the segments that ended, the open one with its claimed line, and the places
+/// that are dropped.
 #[derive(Drop)]
 pub struct Walk {
     pub(crate) closed: Vec<Told>,
     pub(crate) anchor: Line,
+    /// The claimed rate.
     pub(crate) rate: Fixed<18>,
     /// The last place that the open segment covers.
     pub(crate) last: Option<usize>,
     /// Where the line of the open segment is left.
     pub(crate) leave_tick: u64,
-    /// The running interval of the open segment, and the places that set it.
+    /// The tightest need and the tightest room of the open segment, and the places that set them.
     pub(crate) least: i128,
     pub(crate) greatest: i128,
     pub(crate) least_place: usize,
@@ -57,7 +59,7 @@ impl Model for Walk {
 }
 
 impl Walk {
-    /// Nothing is built yet: the line of the old last triple goes on to the seam.
+    /// Nothing is evaluated yet: the line of the old last triple goes on to the seam.
     pub fn new(alloc: Global, start: Start) -> Walk
         ensures { result ≡ fresh start.old start.seam }
     {
@@ -79,110 +81,94 @@ impl Walk {
         }
     }
 
-    /// One observation more is covered or dropped; `false` where it stops every publication.
+    /// The claims are evaluated over one observation more; `false` where they are those of no publication.
     pub fn take(&mut self, scene: &Scene, place: usize) -> Result<bool, NoMemory>
         requires within { place < length scene.now.rows }
         requires new { (row : RowView) → slice_get scene.now.rows place ≡ Some row → is_new (terms scene.now) (sight_at place row) ≡ true }
-        requires walked { IsWalked (terms scene.now) scene.now.rows place self.old }
-        ensures on { result ≡ Ok true → IsWalked (terms scene.now) scene.now.rows (place + 1) self.new }
-        ensures stopped { result ≡ Ok false → IsStopped (terms scene.now) scene.now.rows }
+        requires evaluated { IsEvaluated scene.now place self.old }
+        ensures on { result ≡ Ok true → IsEvaluated scene.now (place + 1) self.new }
+        ensures refuted { result ≡ Ok false → IsRefuted scene.now }
     {
         let obs = scene.at(place);
         self.take_next(scene, place, obs)
     }
 
-    /// The next observation is covered or dropped; `false` where it stops every publication.
+    /// The next observation is met by the claimed line, or else it begins the next claimed segment or is dropped.
     fn take_next(
         &mut self,
         scene: &Scene,
         place: usize,
         obs: &Observation,
     ) -> Result<bool, NoMemory>
-        requires built { IsBuiltTo scene.now place self.old }
-        requires next { IsNext scene.now place obs.now }
-        ensures moved { result ≡ Ok true → Grows scene.now place obs.now self.old self.new }
-        ensures stopped { result ≡ Ok false → IsStop scene.now place obs.now self.old }
+        requires evaluated { IsEvaluated scene.now place self.old }
+        requires next { IsNextAt scene.now place obs.now }
+        ensures on { result ≡ Ok true → IsEvaluated scene.now (place + 1) self.new }
+        ensures refuted { result ≡ Ok false → IsRefuted scene.now }
     {
-        if scene.are_together(obs, self.anchor.ticks) {
-            return self.take_here(scene, place, obs);
+        if !scene.are_together(obs, self.anchor.ticks) {
+            return self.take_apart(scene, place, obs);
         }
-        self.take_apart(scene, place, obs)
-    }
-
-    /// The next observation, in the open segment's partition, is covered or dropped.
-    fn take_here(
-        &mut self,
-        scene: &Scene,
-        place: usize,
-        obs: &Observation,
-    ) -> Result<bool, NoMemory>
-        requires built { IsBuiltTo scene.now place self.old }
-        requires next { IsNext scene.now place obs.now }
-        requires here { IsHere scene.now obs.now self.old }
-        ensures moved { result ≡ Ok true → Grows scene.now place obs.now self.old self.new }
-        ensures stopped { result ≡ Ok false → IsStop scene.now place obs.now self.old }
-    {
-        let covered = self.cover_here(scene, place, obs)?;
-        if covered {
+        if scene.meets(self.anchor, self.rate, obs) {
+            self.cover(scene, place, obs);
             return Ok(true);
         }
-        self.drop_or_stop(scene, place, obs)
-    }
-
-    /// The next observation, in another partition, is covered; `false` where time would fall.
-    fn take_apart(
-        &mut self,
-        scene: &Scene,
-        place: usize,
-        obs: &Observation,
-    ) -> Result<bool, NoMemory>
-        requires built { IsBuiltTo scene.now place self.old }
-        requires next { IsNext scene.now place obs.now }
-        requires away { ¬ IsHere scene.now obs.now self.old }
-        ensures moved { result ≡ Ok true → Grows scene.now place obs.now self.old self.new }
-        ensures stopped { result ≡ Ok false → IsStop scene.now place obs.now self.old }
-    {
-        if scene.is_late(self.anchor, self.rate, obs) {
+        let Some(ended) = self.end_before(scene, place, obs) else {
             return Ok(false);
-        }
-        match self.leave_apart(scene, place, obs) {
-            Ok(()) => Ok(true),
-            Err(fault) => Err(fault),
-        }
+        };
+        self.leave_or_drop(scene, place, obs, ended)
     }
 
-    /// The open segment or a further one covers an observation of its partition; `false` where no allowed rate meets it.
-    fn cover_here(
-        &mut self,
-        scene: &Scene,
-        place: usize,
-        obs: &Observation,
-    ) -> Result<bool, NoMemory>
-        requires built { IsBuiltTo scene.now place self.old }
-        requires next { IsNext scene.now place obs.now }
+    /// The open segment covers an observation that its claimed line meets.
+    fn cover(&mut self, scene: &Scene, place: usize, obs: &Observation)
+        requires evaluated { IsEvaluated scene.now place self.old }
+        requires next { IsNextAt scene.now place obs.now }
         requires here { IsHere scene.now obs.now self.old }
-        ensures began { result ≡ Ok true → Grows scene.now place obs.now self.old self.new }
-        ensures stays { result ≢ Ok true → self.new ≡ self.old }
-        ensures none { result ≡ Ok false → LacksRate scene.now place obs.now self.old }
+        requires met { Meets (terms scene.now).gauge (anchor_of self.old.anchor) self.old.rate.units (sight_at place obs.now) }
+        ensures { IsEvaluated scene.now (place + 1) self.new }
     {
-        match self.goes_on(scene, place, obs) {
-            None => Ok(true),
-            Some(ended) => self.leave_here(scene, place, obs, ended),
+        if self.is_first() {
+            self.go_on(place, obs.tick);
+            return;
         }
+        let running = self.running_over(scene, place, obs);
+        self.set_running(running);
+        self.go_on(place, obs.tick);
     }
 
-    /// The observation is dropped, where one more may be; else it stops every publication.
-    fn drop_or_stop(
+    /// Why the open segment ends at an observation that its claimed line misses; `None` where it could have gone on.
+    fn end_before(&self, scene: &Scene, place: usize, obs: &Observation) -> Option<End>
+        requires evaluated { IsEvaluated scene.now place self.now }
+        requires next { IsNextAt scene.now place obs.now }
+        requires here { IsHere scene.now obs.now self.now }
+        requires misses { ¬ Meets (terms scene.now).gauge (anchor_of self.now.anchor) self.now.rate.units (sight_at place obs.now) }
+        ensures some { IfSome result (CanEndAs scene.now place obs.now (so_far (terms scene.now) self.now)) }
+        ensures none { IfNone result (IsRefuted scene.now) }
+    {
+        if self.is_first() {
+            return Some(End::Fixed);
+        }
+        let running = self.running_over(scene, place, obs);
+        if !running.bounds.is_empty() {
+            return None;
+        }
+        Some(End::Blocked {
+            low: running.least_place,
+            high: running.greatest_place,
+        })
+    }
+
+    /// The observation is dropped, where one more may be; else there is no publication.
+    pub(crate) fn drop_or_stop(
         &mut self,
         scene: &Scene,
         place: usize,
         obs: &Observation,
     ) -> Result<bool, NoMemory>
-        requires built { IsBuiltTo scene.now place self.old }
-        requires next { IsNext scene.now place obs.now }
-        requires none { LacksRate scene.now place obs.now self.old }
-        ensures moved { result ≡ Ok true → Grows scene.now place obs.now self.old self.new }
-        ensures stopped { result ≡ Ok false → IsStop scene.now place obs.now self.old }
+        requires evaluated { IsEvaluated scene.now place self.old }
+        requires next { IsNextAt scene.now place obs.now }
+        requires none { LacksRate scene.now place obs.now (so_far (terms scene.now) self.old) }
+        ensures on { result ≡ Ok true → IsEvaluated scene.now (place + 1) self.new }
+        ensures refuted { result ≡ Ok false → IsRefuted scene.now }
     {
         if scene.is_full(self.dropped.len()) {
             return Ok(false);
@@ -200,5 +186,36 @@ impl Walk {
     {
         self.dropped.push(place)?;
         Ok(())
+    }
+
+    /// The open segment is the first one, whose line is that of the old last triple.
+    pub(crate) fn is_first(&self) -> bool
+        ensures first { IsTrue result → self.now.closed ≡ [] }
+        ensures later { result ≡ false → 0 < length self.now.closed }
+    {
+        self.closed.is_empty()
+    }
+
+    /// The rate that the open segment has over what it covers so far; in the end it is the claimed one.
+    pub(crate) fn rate_so_far(&self, scene: &Scene) -> Fixed<18>
+        requires evaluated { Evaluates scene.now self.now }
+        ensures value { result.units ≡ rate_so_far (terms scene.now) self.now }
+        ensures rate { IsRate result.units }
+    {
+        if self.is_first() {
+            return self.rate;
+        }
+        scene.middle_rate(Bounds {
+            least: self.least,
+            greatest: self.greatest,
+        })
+    }
+
+    /// The open segment covers a place, and is left at its tick.
+    fn go_on(&mut self, place: usize, tick: u64)
+        ensures { self.new ≡ gone_on self.old place tick self.old.rate }
+    {
+        self.last = Some(place);
+        self.leave_tick = tick;
     }
 }

@@ -1,15 +1,18 @@
-//! The walk over all observations.
+//! The claims are evaluated over all observations.
 
-ghost use Rattle.std.specs.Prelude.{All, ◌≡◌, ◌<◌, ◌≤◌, ◌++◌, ◌∷◌, [], IfOk, IfSome, IfNone, ℕ, length, true};
+ghost use Rattle.std.specs.Prelude.{All, ◌≡◌, ◌<◌, ◌≤◌, ◌++◌, ◌∷◌, [], IfOk, IfSome, IfNone, IsTrue, ℕ, length, map, drop, true, false};
 ghost use Rattle.std.specs.List.{AllByRecursion};
 ghost use Rattle.sk_clock.specs.Clock.{total};
 ghost use Rattle.sk_publishing.specs.Terms.{sights};
 ghost use Rattle.sk_publishing.specs.Kept.{is_new as is_new_in};
 ghost use Rattle.sk_audit.specs.Walking.{closed_as, fresh};
-ghost use Rattle.sk_audit.specs.Walked.{IsAccount, IsStopped, IsWalked, is_new_tick, AreOldTicks, IsNewTick};
+ghost use Rattle.sk_audit.specs.Walked.{IsAccount, is_new_tick, AreOldTicks, IsNewTick};
+ghost use Rattle.sk_audit.specs.Claims.{triple_of};
 ghost use Rattle.sk_audit.specs.Scene.{terms};
+ghost use Rattle.sk_audit.specs.Evaluated.{IsEvaluated, IsRefuted, rate_so_far};
 ghost use Rattle.sk_audit.specs.declared.told.End.{End as Ends};
 
+use crate::ending::are_same;
 use crate::partitions::partition_of;
 use crate::scene::Scene;
 use crate::start::Start;
@@ -52,14 +55,14 @@ pub fn first_new_of(clock: &Clock, start: &Start, observations: &[Observation]) 
     observations.len()
 }
 
-/// What is built over all observations; those before `first_new` are old. `None` where an observation stops every
+/// What is evaluated over all observations; those before `first_new` are old. `None` where the claims are those of no
 /// publication.
 fn walked(alloc: Global, scene: &Scene, first_new: usize) -> Result<Option<Walk>, NoMemory>
     requires within { first_new ≤ length scene.now.rows }
     requires new { AllByRecursion (λ x. first_new ≤ x.place → is_new_in (terms scene.now) x ≡ true) (sights scene.now.rows) }
-    requires begun { IsWalked (terms scene.now) scene.now.rows first_new (fresh scene.now.start.old scene.now.start.seam) }
-    ensures some { IfOk result (λ walk. IfSome walk (IsWalked (terms scene.now) scene.now.rows (length scene.now.rows))) }
-    ensures none { IfOk result (λ walk. IfNone walk (IsStopped (terms scene.now) scene.now.rows)) }
+    requires begun { IsEvaluated scene.now first_new (fresh scene.now.start.old scene.now.start.seam) }
+    ensures some { IfOk result (λ walk. IfSome walk (IsEvaluated scene.now (length scene.now.rows))) }
+    ensures none { IfOk result (λ walk. IfNone walk (IsRefuted scene.now)) }
 {
     let mut walk = Walk::new(alloc, scene.start());
     for place in first_new..scene.count() {
@@ -72,6 +75,18 @@ fn walked(alloc: Global, scene: &Scene, first_new: usize) -> Result<Option<Walk>
 }
 
 impl Walk {
+    /// The last claimed rate is the middle one of all that its segment covers, and no further triple is claimed.
+    fn is_whole(&self, scene: &Scene) -> bool
+        requires evaluated { IsEvaluated scene.now (length scene.now.rows) self.now }
+        ensures yes { IsTrue result → (rate_so_far (terms scene.now) self.now ≡ self.now.rate.units) × (length scene.now.claims ≡ length self.now.closed) }
+        ensures no { result ≡ false → IsRefuted scene.now }
+    {
+        if !are_same(self.rate_so_far(scene), self.rate) {
+            return false;
+        }
+        scene.claim_count() == self.closed.len()
+    }
+
     /// What is told of all segments, the open one among them.
     fn into_account(self) -> Result<Account, NoMemory>
         ensures segments { IfOk result (λ a. a.segments.items ≡ self.closed ++ closed_as self Ends.Last ∷ []) }
@@ -91,7 +106,7 @@ impl Walk {
     }
 }
 
-/// What is told of the publication of all observations; `None` exactly where an observation stops every publication.
+/// What is told of the publication whose triples are claimed; `None` exactly where no publication has them.
 pub fn account_of(
     alloc: Global,
     scene: &Scene,
@@ -99,14 +114,18 @@ pub fn account_of(
 ) -> Result<Option<Account>, NoMemory>
     requires within { first_new ≤ length scene.now.rows }
     requires new { AllByRecursion (λ x. first_new ≤ x.place → is_new_in (terms scene.now) x ≡ true) (sights scene.now.rows) }
-    requires begun { IsWalked (terms scene.now) scene.now.rows first_new (fresh scene.now.start.old scene.now.start.seam) }
+    requires begun { IsEvaluated scene.now first_new (fresh scene.now.start.old scene.now.start.seam) }
     ensures some { IfOk result (λ account. IfSome account (IsAccount (terms scene.now) (sights scene.now.rows))) }
-    ensures none { IfOk result (λ account. IfNone account (IsStopped (terms scene.now) scene.now.rows)) }
+    ensures claimed { IfOk result (λ account. IfSome account (λ a. map triple_of (drop 1 a.segments.items) ≡ scene.now.claims)) }
+    ensures none { IfOk result (λ account. IfNone account (IsRefuted scene.now)) }
 {
     let walked = walked(alloc, scene, first_new)?;
     let Some(walk) = walked else {
         return Ok(None);
     };
+    if !walk.is_whole(scene) {
+        return Ok(None);
+    }
     let account = walk.into_account()?;
     Ok(Some(account))
 }

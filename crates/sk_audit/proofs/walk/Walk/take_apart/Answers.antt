@@ -1,44 +1,51 @@
-use Rattle.std.proofs.Common.{◌≡◌, subst, ap, arith, inr}
-use Rattle.std.specs.Prelude.{◌≤ℤ◌, ◌<ℤ◌}
-use Rattle.sk_decimal.specs.declared.fixed.Fixed.{Fixed}
+use Rattle.std.proofs.Common.{◌≡◌, subst, ap, inr, arith}
+use Rattle.std.specs.Prelude.{ℤ, ◌≤ℤ◌, ◌<ℤ◌}
 use Rattle.sk_publishing.specs.Terms.{Sight, Terms}
 use Rattle.sk_publishing.specs.Meets.{line_at, scaled}
 use Rattle.sk_publishing.specs.Chain.{PartitionEnd}
 use Rattle.sk_publishing.proofs.Steps.{ended_as}
 use Rattle.sk_publishing.proofs.Fitting.{has_time_fall, partition_ends}
 use Rattle.sk_audit.specs.declared.line.Line.{Line}
-use Rattle.sk_audit.specs.Given.{sight_at, anchor_of}
+use Rattle.sk_audit.specs.Given.{anchor_of, sight_at}
 use Rattle.sk_audit.specs.Walking.{WalkView, open_of}
 use Rattle.sk_audit.specs.Scene.{terms}
+use Rattle.sk_audit.specs.Evaluated.{so_far}
+use Rattle.sk_audit.proofs.Leaving.{can_meet_own}
 use Rattle.sk_audit.proofs.Widen.{after_open, between}
+use Rattle.sk_audit.proofs.Evaluating.{built, stopped, due_anew}
 use Rattle.sk_audit.proofs.walk.Walk.take_apart.Goals as goal
 
 pub is_late-requires-clause-ahead : goal.is_late-requires-clause-ahead
 is_late-requires-clause-ahead c =
     let anchor = ap (λ (v : WalkView). v.anchor.ticks) c.self.view_is in
-    let after = after_open c.args.scene.now c.args.place c.args.obs.now c.args.self.now c.requires.built c.requires.next in
+    let after = after_open c.args.scene.now c.args.place c.args.obs.now (so_far (terms c.args.scene.now) c.args.self.now)
+    (built c.args.scene.now c.args.place c.args.obs.now c.args.self.now c.requires.next c.requires.evaluated) c.requires.next.next in
     omega arith
 
-pub returns-then-is_late-clause-stopped : goal.returns-then-is_late-clause-stopped
-returns-then-is_late-clause-stopped c e kept dropped h =
+pub returns-then-is_late-clause-refuted : goal.returns-then-is_late-clause-refuted
+returns-then-is_late-clause-refuted c _ =
     let t : Terms = terms c.args.scene.now in
     let o : Sight = sight_at c.args.place c.args.obs.now in
-    let f : WalkView = c.args.self.now in
+    let f : WalkView = so_far t c.args.self.now in
     let anchor : c.self.inside.anchor ≡ f.anchor = ap (λ (v : WalkView). v.anchor) c.self.view_is in
-    let rate : c.self.inside.rate ≡ f.rate = ap (λ (v : WalkView). v.rate) c.self.view_is in
     let late : scaled t.gauge o.time <ℤ line_at t.gauge (anchor_of f.anchor) f.rate.units o.tick =
     subst (λ (s : Line). scaled t.gauge o.time <ℤ line_at t.gauge (anchor_of s) f.rate.units o.tick) anchor
-    (subst (λ (r : Fixed 18). scaled t.gauge o.time <ℤ line_at t.gauge (anchor_of c.self.inside.anchor) r.units o.tick) rate (c.is_late.ensures.0 c.if-is_late.true)) in
-    inr (has_time_fall t kept h.front (ended_as t (open_of f h.covered) PartitionEnd) o c.requires.away late
-    (partition_ends t kept h.front (open_of f h.covered) o h.low h.high f.least f.greatest c.requires.away h.built))
+    (subst (λ (r : ℤ). scaled t.gauge o.time <ℤ line_at t.gauge (anchor_of c.self.inside.anchor) r o.tick) c.rate_so_far-rate.ensures.value (c.is_late.ensures.0 c.if-is_late.true)) in
+    stopped c.args.scene.now c.args.place c.args.obs.now c.args.self.now c.requires.next c.requires.evaluated
+    (λ kept dropped h. inr (has_time_fall t kept h.front (ended_as t (open_of f h.covered) PartitionEnd) o c.requires.away late
+    (partition_ends t kept h.front (open_of f h.covered) o h.low h.high f.least f.greatest c.requires.away h.built)))
 
-pub leave_apart-requires-clause-not_late : goal.leave_apart-requires-clause-not_late
-leave_apart-requires-clause-not_late c =
+pub bounds-bounds-requires : goal.bounds-bounds-requires
+bounds-bounds-requires c =
+    can_meet_own c.args.scene.now c.args.place c.args.obs.now (so_far (terms c.args.scene.now) c.args.self.now) c.requires.next.next c.anchored_at-anchor.result c.anchored_at-anchor.ensures
+
+pub begin_claimed-requires-clause-due : goal.begin_claimed-requires-clause-due
+begin_claimed-requires-clause-due c =
     let t : Terms = terms c.args.scene.now in
     let o : Sight = sight_at c.args.place c.args.obs.now in
-    let f : WalkView = c.args.self.now in
+    let f : WalkView = so_far t c.args.self.now in
     let anchor : c.self.inside.anchor ≡ f.anchor = ap (λ (v : WalkView). v.anchor) c.self.view_is in
-    let rate : c.self.inside.rate ≡ f.rate = ap (λ (v : WalkView). v.rate) c.self.view_is in
-    subst (λ (s : Line). line_at t.gauge (anchor_of s) f.rate.units o.tick ≤ℤ scaled t.gauge o.time) anchor
-    (subst (λ (r : Fixed 18). line_at t.gauge (anchor_of c.self.inside.anchor) r.units o.tick ≤ℤ scaled t.gauge o.time) rate
-    (between c.is_late.ensures c.if-is_late.false))
+    due_anew c.args.scene.now c.args.place c.args.obs.now c.args.self.now c.requires.next c.requires.evaluated c.anchored_at-anchor.result c.bounds-bounds.result c.requires.away
+    (subst (λ (s : Line). line_at t.gauge (anchor_of s) f.rate.units o.tick ≤ℤ scaled t.gauge o.time) anchor
+    (subst (λ (r : ℤ). line_at t.gauge (anchor_of c.self.inside.anchor) r o.tick ≤ℤ scaled t.gauge o.time) c.rate_so_far-rate.ensures.value
+    (between c.is_late.ensures c.if-is_late.false))) c.anchored_at-anchor.ensures c.bounds-bounds.ensures.least c.bounds-bounds.ensures.greatest
