@@ -46,21 +46,22 @@ x;1/0000001500:000;1600.000000000000;1500.002999992187;99997000007813;2;dropped;
 b;1/0000002000:000;2000.004000000000;2000.003999992187;7813;2;new;last
 ";
 
-/// What the auditor says of the old kernel with this block.
-fn said(
+/// What the auditor says of a new kernel over the old one.
+fn judged(
     rt: &(impl Abort + AllocGlobal),
     asked: Asked,
     records: &str,
-    block: &str,
+    old: &str,
+    new: &str,
 ) -> Result<String, Fail> {
     let alloc = rt.alloc();
-    let old = doc(rt, OLD)?;
-    let text = format!(in alloc; "{OLD}{block}")?;
-    let new = doc(rt, text.as_str())?;
+    let old = doc(rt, old)?;
+    let new = doc(rt, new)?;
     let pool = pool(rt, &old)?;
     let clock = Clock::of(alloc, &pool, 99)?;
     let triples = Triples::of(alloc, &pool, &clock, 99)?;
     let list = observations(alloc, &clock, records)?;
+    assert!(rt; list.as_slice().len() <= 100_000);
     let settings = settings(rt, asked);
     let verdict = audit(
         alloc,
@@ -75,9 +76,33 @@ fn said(
     Ok(format!(in alloc; "{verdict:?}")?)
 }
 
-/// The block with one part of it changed.
-fn edited(rt: &impl AllocGlobal, block: &str, part: &str, other: &str) -> Result<String, Fail> {
-    Ok(block.replace(rt.alloc(), part, other)?)
+/// What the auditor says of the old kernel with this block.
+fn said(
+    rt: &(impl Abort + AllocGlobal),
+    asked: Asked,
+    records: &str,
+    block: &str,
+) -> Result<String, Fail> {
+    let new = format!(in rt.alloc(); "{OLD}{block}")?;
+    judged(rt, asked, records, OLD, new.as_str())
+}
+
+/// What the auditor says of the block over an old kernel with other coefficients.
+fn said_over(
+    rt: &(impl Abort + AllocGlobal),
+    asked: Asked,
+    coefficients: &str,
+    block: &str,
+) -> Result<String, Fail> {
+    let old = edited(rt, OLD, "( 0 0 1 )", coefficients)?;
+    let old = old.as_str();
+    let new = format!(in rt.alloc(); "{old}{block}")?;
+    judged(rt, asked, TWO, old, new.as_str())
+}
+
+/// The text with one part of it changed.
+fn edited(rt: &impl AllocGlobal, text: &str, part: &str, other: &str) -> Result<String, Fail> {
+    Ok(text.replace(rt.alloc(), part, other)?)
 }
 
 #[test]
@@ -140,12 +165,97 @@ fn changed_publications_are_refused(rt: HostRuntime) -> Result<(), Fail> {
 }
 
 #[test]
-fn other_documents_are_refused(rt: HostRuntime) -> Result<(), Fail> {
+fn lines_of_the_table_are_all_compared(rt: HostRuntime) -> Result<(), Fail> {
+    for (part, other, wanted) in [
+        ("residuals;2\n", "", "No(Table(1))"),
+        ("7813;2;new;\n", "7812;2;new;\n", "No(Table(2))"),
+        ("7813;2;new;\n", "7813;1;new;\n", "No(Table(2))"),
+        ("7813;2;new;\n", "7813;2;old;\n", "No(Table(2))"),
+        ("7813;2;new;\n", "7813;2;new; \n", "No(Table(2))"),
+        ("last\n", "last\nlast\n", "No(Table(4))"),
+        (
+            "b;1/0000002000:000;2000.004000000000;2000.003999992187;7813;2;new;last\n",
+            "",
+            "No(Table(3))",
+        ),
+    ] {
+        let block = edited(&rt, TWO_BLOCK, part, other)?;
+        assert_eq!(rt;
+            said(&rt, NINE_DECIMALS, TWO, block.as_str())?.as_str(),
+            wanted
+        );
+    }
+    Ok(())
+}
+
+#[test]
+fn the_old_document_stands_in_the_new_one(rt: HostRuntime) -> Result<(), Fail> {
     assert_eq!(rt; said(&rt, NINE_DECIMALS, TWO, "")?.as_str(), "No(Standing)");
+    let two = format!(in rt.alloc(); "{TWO_BLOCK}{TWO_BLOCK}")?;
+    assert_eq!(rt;
+        said(&rt, NINE_DECIMALS, TWO, two.as_str())?.as_str(),
+        "No(Standing)"
+    );
+    for (part, other) in [
+        ("KPL/SCLK\n", "KPL/SCLK\nA note.\n"),
+        ("@2024-01-01", "@2024-01-02"),
+        ("( 0 0 1 )", "( 0 0 1.0000001 )"),
+        ("( 0 0 1 )", "( 0 @2000-JAN-1-12:00 1 )"),
+    ] {
+        let old = edited(&rt, OLD, part, other)?;
+        let new = format!(in rt.alloc(); "{OLD}{TWO_BLOCK}")?;
+        let other = judged(&rt, NINE_DECIMALS, TWO, old.as_str(), new.as_str())?;
+        assert_eq!(rt; other.as_str(), "No(Standing)");
+    }
+    Ok(())
+}
+
+#[test]
+fn times_that_are_dates(rt: HostRuntime) -> Result<(), Fail> {
+    let date = "( 0 @2000-JAN-1-12:00 1 )";
+    assert_eq!(rt;
+        said_over(&rt, NINE_DECIMALS, date, TWO_BLOCK)?.as_str(),
+        "Yes"
+    );
+    let block = edited(
+        &rt,
+        TWO_BLOCK,
+        "0.00390625",
+        "@2000-01-01T12:00:00.00390625",
+    )?;
+    assert_eq!(rt;
+        said_over(&rt, NINE_DECIMALS, date, block.as_str())?.as_str(),
+        "No(Items)"
+    );
+    Ok(())
+}
+
+#[test]
+fn settings_that_admit_no_publication(rt: HostRuntime) -> Result<(), Fail> {
     let held = Asked {
         hold: Some(1 << 50),
         ..NINE_DECIMALS
     };
     assert_eq!(rt; said(&rt, held, TWO, TWO_BLOCK)?.as_str(), "No(Settings)");
+    let early = "( 512000 2000 1 )";
+    assert_eq!(rt;
+        said_over(&rt, NINE_DECIMALS, early, TWO_BLOCK)?.as_str(),
+        "No(Settings)"
+    );
+    let falling = "( 0 0 1 256 0.998 1 )";
+    assert_eq!(rt;
+        said_over(&rt, NINE_DECIMALS, falling, TWO_BLOCK)?.as_str(),
+        "No(Settings)"
+    );
+    let coarse = Asked {
+        rate_decimals: 1,
+        ..NINE_DECIMALS
+    };
+    assert_eq!(rt;
+        said_over(&rt, coarse, "( 0 0 1.05 )", TWO_BLOCK)?.as_str(),
+        "No(Settings)"
+    );
+    // Nothing else is judged before the settings.
+    assert_eq!(rt; said(&rt, held, TWO, "")?.as_str(), "No(Settings)");
     Ok(())
 }
