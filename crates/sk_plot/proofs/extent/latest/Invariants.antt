@@ -1,0 +1,9 @@
+use Rattle.std.proofs.Common.{◌≡◌, ℕ, ◌^◌, ◌≤◌, take, arith}
+use Rattle.std.specs.Prelude.{ℤ, pos, neg_ℤ, ◌≤ℤ◌, fold, count_by, max, not, unsigned_abs}
+use Rattle.std.specs.Int.{int_min, int_max}
+use Rattle.sk_plot.specs.Point.{PointView}
+use Rattle.sk_plot.specs.Place.{is_inside}
+use Rattle.sk_plot.proofs.extent.latest.Given as goal
+
+abbrev pub invariant-loop-point : goal.invariant-loop-point
+invariant-loop-point l = (l.most.units ≡ fold (λ (t : ℤ) (p : PointView). int_max t p.time) l.initial.most.units (take l.point-index l.points)) × (l.most.units ≤ℤ pos (10 ^ 22)) × (l.initial.most.units ≤ℤ l.most.units)
