@@ -200,7 +200,7 @@ head_text title count outside worst = named (codes "<text x=\"120\" y=\"26\" fon
 
 -- the band of the tolerance: from its upper edge down to its lower one
 unfoldable pub band_at : ℤ → ℤ → List ℕ
-band_at top height = placed (codes "<rect class=\"band\" fill=\"#e3f1e8\" x=\"120\" width=\"1000\" y=\"") top
+band_at top height = placed (codes "<rect class=\"band\" fill=\"#e3f1e8\" fill-opacity=\"0.5\" x=\"120\" width=\"1000\" y=\"") top
     ++ (placed (codes "\" height=\"") height ++ codes "\"/>\n")
 
 unfoldable pub band_text : ℕ → ℕ → List ℕ

@@ -112,7 +112,7 @@ fn push_band_at(out: &mut Vec<u8>, top: Fixed<2>, height: Fixed<2>) -> Result<()
 {
     push_placed(
         out,
-        b"<rect class=\"band\" fill=\"#e3f1e8\" x=\"120\" width=\"1000\" y=\"",
+        b"<rect class=\"band\" fill=\"#e3f1e8\" fill-opacity=\"0.5\" x=\"120\" width=\"1000\" y=\"",
         top,
     )?;
     push_placed(out, b"\" height=\"", height)?;

@@ -10,6 +10,8 @@ mod piece;
 mod place;
 mod point;
 mod scale;
+#[cfg(test)]
+mod tests;
 
 pub use document::{Words, picture};
 pub use escape::push_escaped;
