@@ -5,6 +5,7 @@ mod axis;
 mod document;
 mod escape;
 mod extent;
+mod laws;
 mod mark;
 mod piece;
 mod place;
@@ -15,6 +16,7 @@ mod tests;
 
 pub use document::{Words, picture};
 pub use escape::push_escaped;
+pub use laws::one_mark_each;
 pub use piece::Piece;
 pub use place::{Sheet, Values, across, band_bottom, band_top, is_inside, is_on, rise};
 pub use point::Point;
