@@ -1,12 +1,11 @@
 -- The picture: its text as appended parts.
-use Rattle.std.specs.Prelude.{ℕ, zero, suc, ◌+◌, ◌-◌, ◌*◌, ◌%◌, ◌^◌, ◌≤◌, min, max, Bool, not, ◌&&◌, ◌||◌, ◌==◌, ℤ, pos, neg_ℤ, ◌+ℤ◌, ◌-ℤ◌, ◌*ℤ◌, ◌≤ℤ◌, int_le, unsigned_abs, List, [], ◌∷◌, ◌++◌, length, fold, flat_map, count_by, codes, decimal, Option, Some, None, if◌then◌else◌}
+use Rattle.std.specs.Prelude.{ℕ, zero, suc, ◌+◌, ◌-◌, ◌*◌, ◌%◌, ◌^◌, ◌≤◌, min, max, Bool, not, ◌&&◌, ◌||◌, ◌==◌, ℤ, pos, neg_ℤ, ◌+ℤ◌, ◌-ℤ◌, ◌*ℤ◌, ◌≤ℤ◌, int_le, unsigned_abs, List, [], ◌∷◌, ◌++◌, length, fold, flat_map, count_by, codes, decimal, if◌then◌else◌}
 use Rattle.std.specs.Int.{int_div_euclid, int_min, int_max}
 use Rattle.sk_decimal.specs.Fixed.{fixed_text}
 use Rattle.sk_plot.specs.Escape.{escaped}
 use Rattle.sk_plot.specs.Scale.{wanted_of, step_of, step_over, micro, per_micro, day_left}
 use Rattle.sk_plot.specs.Place.{band_top, band_bottom, is_inside, is_on, rise_of, across_of}
 use Rattle.sk_plot.specs.Point.{PointView}
-use Rattle.sk_plot.specs.declared.place.Values.{Values}
 use Rattle.sk_plot.specs.declared.place.Sheet.{Sheet}
 use Rattle.sk_plot.specs.declared.scale.Days.{Days}
 use Rattle.sk_plot.specs.declared.document.Scale.{Scale}

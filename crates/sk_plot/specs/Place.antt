@@ -1,5 +1,5 @@
 -- Where a value is drawn, in hundredths of a unit: upwards from the line of 0, and across from the left edge.
-use Rattle.std.specs.Prelude.{◌≡◌, ℕ, ◌*◌, ℤ, pos, neg_ℤ, ◌+ℤ◌, ◌-ℤ◌, ◌*ℤ◌, ◌≤ℤ◌, int_lt, int_le, Bool, ◌&&◌, if◌then◌else◌}
+use Rattle.std.specs.Prelude.{ℕ, ℤ, pos, neg_ℤ, ◌+ℤ◌, ◌-ℤ◌, ◌*ℤ◌, int_lt, int_le, Bool, ◌&&◌, if◌then◌else◌}
 use Rattle.std.specs.Int.{int_div_euclid, int_min, int_max}
 
 -- a value in a panel whose axis reaches so far from 0: 200 units for the reach

@@ -1,6 +1,5 @@
 use Rattle.std.proofs.Common.{arith}
-use Rattle.std.proofs.lemmas.Int.{ints, to_z-of_z}
-use Rattle.sk_plot.specs.Place.{held_of, share_of, across_of}
+use Rattle.std.proofs.lemmas.Int.{to_z-of_z}
 use Rattle.sk_plot.proofs.place.across.Goals as goal
 
 pub returns : goal.returns

@@ -1,4 +1,4 @@
-use Rattle.std.proofs.Common.{◌≡◌, ℕ, ◌+◌, ◌*◌, ◌^◌, ◌<◌, ◌≤◌, refl, sym, subst, arith, ◌∙◌}
+use Rattle.std.proofs.Common.{◌≡◌, ℕ, ◌≤◌, sym, subst, arith}
 use Rattle.sk_plot.specs.Scale.{round_from, round_up}
 use Rattle.sk_plot.proofs.Rounded.{covers, begins}
 use Rattle.sk_plot.proofs.scale.round_up.Goals as goal
