@@ -1,6 +1,8 @@
 //! What the picture's definition comes to, for readers.
 
-ghost use Rattle.std.specs.Prelude.{◌≡◌, ◌∷◌, ◌++◌, List};
+ghost use Rattle.std.specs.Prelude.{◌≡◌, ◌∷◌, ◌++◌, ℕ, List, IsTrue};
+ghost use Rattle.std.specs.List.{list_all};
+ghost use Rattle.sk_plot.specs.Escape.{escaped, is_harmless};
 ghost use Rattle.sk_plot.specs.Point.{PointView};
 ghost use Rattle.sk_plot.specs.Picture.{mark_text, marks_text};
 ghost use Rattle.sk_plot.specs.declared.place.Sheet.{Sheet as SheetView};
@@ -9,4 +11,9 @@ ghost use Rattle.sk_plot.specs.declared.place.Sheet.{Sheet as SheetView};
 pub fn one_mark_each()
     ensures { (sheet : SheetView) (before after : List PointView) (p : PointView)
         → marks_text sheet (before ++ p ∷ after) ≡ marks_text sheet before ++ (mark_text sheet p ++ marks_text sheet after) }
+{}
+
+/// No escaped text has a byte that opens or ends an element or a quoted value, or that XML forbids.
+pub fn escaped_is_harmless()
+    ensures { (bytes : List ℕ) → IsTrue (list_all is_harmless (escaped bytes)) }
 {}

@@ -16,7 +16,7 @@ mod tests;
 
 pub use document::{Words, picture};
 pub use escape::push_escaped;
-pub use laws::one_mark_each;
+pub use laws::{escaped_is_harmless, one_mark_each};
 pub use piece::Piece;
 pub use place::{Sheet, Values, across, band_bottom, band_top, is_inside, is_on, rise};
 pub use point::Point;
