@@ -22,7 +22,7 @@ few_from clock pairs before n [] within none = omega arith
 few_from clock pairs before n (row ∷ rows) within none =
     let other : n ≢ 100002 = none.1.0 in
     let rest = few_from clock pairs (Some row) (n + 1) rows (omega arith)
-        (none_after (record_checks clock pairs before n row) (each_after (Some row) (n + 1) (record_checks clock pairs) rows) none) in
+    (none_after (record_checks clock pairs before n row) (each_after (Some row) (n + 1) (record_checks clock pairs) rows) none) in
     omega arith
 
 few_rows : (clock : ClockView) (pairs : List LeapPair) (rows : List (List (List ℕ))) (list : List RowView)

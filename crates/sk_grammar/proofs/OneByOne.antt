@@ -48,8 +48,8 @@ named_text item items =
     let n = named_lines item item.values in (
       n.0 ++ 10 ∷ ended_by_line_feeds (n.1 ++ flat_map item_lines items),
       ap (λ (ls : List (List ℕ)). ended_by_line_feeds (ls ++ flat_map item_lines items)) n.2
-      ∙ append_assoc (item.name ++ n.0) (10 ∷ []) (ended_by_line_feeds (n.1 ++ flat_map item_lines items))
-      ∙ append_assoc item.name n.0 (10 ∷ ended_by_line_feeds (n.1 ++ flat_map item_lines items)),
+          ∙ append_assoc (item.name ++ n.0) (10 ∷ []) (ended_by_line_feeds (n.1 ++ flat_map item_lines items))
+          ∙ append_assoc item.name n.0 (10 ∷ ended_by_line_feeds (n.1 ++ flat_map item_lines items)),
     )
 
 -- the lines of an item begin with one

@@ -116,7 +116,13 @@ fn publications_are_accepted(rt: HostRuntime) -> Result<(), Fail> {
     assert_eq!(rt; answer.as_slice(), "yes\n".as_bytes());
     let answer = said(alloc, UNDATED, THREE, NINE, (UNDATED, TWO_LINES))?;
     assert_eq!(rt; answer.as_slice(), "yes\n".as_bytes());
-    let answer = said(alloc, UNDATED, STRAY, "--reject=1", (UNDATED, WITHOUT_THE_STRAY))?;
+    let answer = said(
+        alloc,
+        UNDATED,
+        STRAY,
+        "--reject=1",
+        (UNDATED, WITHOUT_THE_STRAY),
+    )?;
     assert_eq!(rt; answer.as_slice(), "yes\n".as_bytes());
     let answer = said(alloc, UNDATED, TWO, NINE, (UNDATED, IN_ANOTHER_LAYOUT))?;
     assert_eq!(rt; answer.as_slice(), "yes\n".as_bytes());
@@ -130,7 +136,13 @@ fn publications_are_accepted(rt: HostRuntime) -> Result<(), Fail> {
 #[test]
 fn other_documents_are_told(rt: HostRuntime) -> Result<(), Fail> {
     let alloc = rt.alloc();
-    let answer = said(alloc, UNDATED, TWO, "--hold=1099511627776", (UNDATED, ONE_LINE))?;
+    let answer = said(
+        alloc,
+        UNDATED,
+        TWO,
+        "--hold=1099511627776",
+        (UNDATED, ONE_LINE),
+    )?;
     assert_eq!(rt; answer.as_slice(), "refused;11;Settings\n".as_bytes());
     let answer = said(alloc, UNDATED, TWO, NINE, (UNDATED, ""))?;
     assert_eq!(rt; answer.as_slice(), "refused;11;Standing\n".as_bytes());
@@ -140,8 +152,17 @@ fn other_documents_are_told(rt: HostRuntime) -> Result<(), Fail> {
     assert_eq!(rt; answer.as_slice(), "refused;11;Standing\n".as_bytes());
     let answer = said(alloc, DATED, TWO, NINE, (OTHER_LETTERS, ONE_LINE))?;
     assert_eq!(rt; answer.as_slice(), "refused;11;Standing\n".as_bytes());
-    let answer = said(alloc, UNDATED, TWO, NINE, (UNDATED, "A\n\\begindata\nA = ("))?;
-    assert_eq!(rt; answer.as_slice(), "refused;12;Grammar;22;Unfinished\n".as_bytes());
+    let answer = said(
+        alloc,
+        UNDATED,
+        TWO,
+        NINE,
+        (UNDATED, "A\n\\begindata\nA = ("),
+    )?;
+    assert_eq!(rt;
+        answer.as_slice(),
+        "refused;12;Grammar;22;Unfinished\n".as_bytes()
+    );
     Ok(())
 }
 

@@ -186,11 +186,7 @@ const FILE_SLIPS: [(&str, &str, &str); 26] = [
         "refused;5;Header\n",
         "Remove each line that begins with #.",
     ),
-    (
-        "",
-        "refused;5;Header\n",
-        "the file holds no record",
-    ),
+    ("", "refused;5;Header\n", "the file holds no record"),
     (
         "a,tick:256000,tdt:1000,0\n",
         "refused;5;Header\n",
