@@ -3,7 +3,8 @@
 
 The rules, in whole numbers and fractions. A segment is a line from an anchor, and the list of observations that it covers; the
 first one is the kernel's last triple. A segment goes on as long as one rate of the band meets all that it covers and the next
-one. Then the next one begins: its anchor is where the line before was left, or the first observation of a later partition.
+one. Then the next one begins: its anchor is where the line before was left, or the first observation of a later partition, and
+never before the line.
 """
 from dataclasses import dataclass, field
 from fractions import Fraction
@@ -87,11 +88,11 @@ class Fit:
         return self
 
     def later(self, now, there, seen):
-        """A later partition: the anchor is its first observation."""
-        if there > Fraction(seen.time, PICO):
+        """A later partition: the anchor is its first observation, or the line before where that is later."""
+        if there > Fraction(seen.time, PICO) + self.settings.tolerance:
             raise Refused(f"TimeFalls;{seen.number}")
-        now.end = "partition"
-        self.segments.append(Segment(seen.tick, Fraction(seen.time, PICO), self.clock.partition(seen.tick), *self.band, [seen]))
+        now.end, time = "partition", max(Fraction(seen.time, PICO), rounded_up(there))
+        self.segments.append(Segment(seen.tick, time, self.clock.partition(seen.tick), *self.band, [seen]))
 
     def goes_on(self, now, there, seen):
         if now is self.segments[0]:

@@ -148,7 +148,7 @@ def observe(rng, made, ticks, even):
             if rng.random() < 0.2:
                 true = rate * (1 + Fraction(round(rng.uniform(-5e5, 5e5) * settings.band_ppm), 10**12))
             if clock.partition(now) > part:
-                part, time = clock.partition(now), time + tolerance * rng.choice([0, 1, 2, 3, 1000, 1000])
+                part, time = clock.partition(now), time + tolerance * rng.choice([-1, 0, 1, 2, 1000, 1000])
         error = rng.choice([-1, 1]) * tolerance if rng.random() < 0.1 else rng.uniform(-noise, noise) * tolerance
         error += rng.choice([-1, 0, 0, 0, 1]) if even else 0
         if rng.random() < (0.05 if settings.reject else 0.003):

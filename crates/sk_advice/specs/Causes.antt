@@ -245,7 +245,7 @@ cause_of_fit fit.BadHold = codes "the tick is before the last triple of the kern
 cause_of_fit (fit.OldFalls fall) = codes "where the next triple begins, time falls by more than --slip-ns."
 cause_of_fit fit.BandEmpty = codes "no rate with so many --rate-decimals lies within --band-ppm of the kernel's last rate."
 cause_of_fit (fit.NoRate n barrier) = codes "no allowed rate meets this record from where the line before it was left."
-cause_of_fit (fit.TimeFalls n) = codes "it begins a partition, at a time before the one that the kernel gives there."
+cause_of_fit (fit.TimeFalls n) = codes "it begins a partition, more than --tol-ns before the time that the kernel gives there."
 cause_of_fit fit.TooMany = codes "old and new triples together are more than 50,000."
 cause_of_fit fit.NoMemory = codes "memory ran out."
 

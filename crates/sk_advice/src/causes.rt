@@ -335,7 +335,7 @@ fn fit_cause(fault: FitFault) -> &'static str
         FitFault::NoRate(..) =>
             "no allowed rate meets this record from where the line before it was left.",
         FitFault::TimeFalls(_) => {
-            "it begins a partition, at a time before the one that the kernel gives there."
+            "it begins a partition, more than --tol-ns before the time that the kernel gives there."
         }
         FitFault::TooMany => "old and new triples together are more than 50,000.",
         FitFault::NoMemory => "memory ran out.",

@@ -2,7 +2,8 @@
 use Rattle.std.proofs.Common.{◌≡◌, ℕ, ◌+◌, ◌-◌, ◌^◌, ◌<◌, List, [], ◌∷◌, ◌++◌, length, refl, sym, ap, subst, ◌∙◌, append_assoc, append-nil, length-append, arith, suc, map, drop, slice_get}
 use Rattle.std.proofs.lemmas.Int.{ints, by_lt_z}
 use Rattle.std.proofs.lemmas.List.{take_all}
-use Rattle.std.specs.Prelude.{ℤ, pos, ◌*ℤ◌, ◌≤ℤ◌, ◌<ℤ◌, Some, None}
+use Rattle.std.specs.Prelude.{ℤ, pos, ◌+ℤ◌, ◌*ℤ◌, ◌≤ℤ◌, ◌<ℤ◌, Some, None}
+use Rattle.std.specs.Int.{int_max}
 use Rattle.std.specs.List.{AllByRecursion}
 use Rattle.sk_decimal.specs.declared.fixed.Fixed.{Fixed}
 use Rattle.sk_decimal.proofs.Signed.{mul-le_right}
@@ -11,9 +12,9 @@ use Rattle.sk_line.proofs.Lists.{all_append, all_back}
 use Rattle.sk_line.proofs.Products.{power_positive}
 use Rattle.sk_publishing.specs.Row.{RowView}
 use Rattle.sk_publishing.specs.Terms.{Sight, Terms, sights_from, grid}
-use Rattle.sk_publishing.specs.Meets.{Meets}
+use Rattle.sk_publishing.specs.Meets.{Meets, line_at, scaled}
 use Rattle.sk_publishing.specs.Rates.{on_grid, IsLeastRate, IsGreatestRate}
-use Rattle.sk_publishing.specs.Chain.{SegmentView, IsAllowedStep, IsNotLater, rounded_up, new_triples}
+use Rattle.sk_publishing.specs.Chain.{SegmentView, IsAllowedStep, IsNotLater, rounded_up, time_anew, new_triples}
 use Rattle.sk_publishing.specs.Kept.{IsPublication, Sorts}
 use Rattle.sk_publishing.specs.Built.{longer, middle_rate}
 use Rattle.sk_publishing.proofs.Bounds.{meets_from, meets_to, meets_within}
@@ -38,7 +39,7 @@ use Rattle.sk_audit.specs.Evaluated.{rate_of, rate_so_far, so_far, IsBetween, li
 use Rattle.sk_audit.proofs.Moves.{moves_on_first, moves_on_later, some_front}
 use Rattle.sk_audit.proofs.Ranges.{due_near}
 use Rattle.sk_audit.proofs.Widen.{filled_run, allowed_ends}
-use Rattle.sk_audit.proofs.Leaving.{made, leaves_here, leaves_apart, own_is_met}
+use Rattle.sk_audit.proofs.Leaving.{made, leaves_here, leaves_apart, anew_is_met}
 use Rattle.sk_audit.proofs.Looping.{goes_on, stops}
 use Rattle.sk_audit.proofs.Passing.{Passes, refuted_by, cancel, late_same, late_more, late_number, new_of}
 
@@ -328,14 +329,14 @@ module _ (scene : SceneView) (n : ℕ) (row : RowView) (w : WalkView) (due : IsN
       let b = begin_is anchor bounds l g filled in
       record { begins = b; grows = leaves_here scene n row f due.next built here ended (made_begin anchor bounds) ends e b }
 
-  -- in another partition, the observation itself
+  -- in another partition, at the observation
   pub due_anew : (anchor : Line) (bounds : Bounds) → ¬ IsHere scene row w → IsNotLater t (open_of f []) o
-      → anchor_of anchor ≡ made row.tick (row.time *ℤ pos (10 ^ 6))
+      → anchor_of anchor ≡ made row.tick (time_anew t (open_of f []) o)
       → IsLeastRate (IsAllowedStep t) t.gauge (anchor_of anchor) (sight_at 0 row) bounds.least
       → IsGreatestRate (IsAllowedStep t) t.gauge (anchor_of anchor) (sight_at 0 row) bounds.greatest
       → IsDue scene n row w (record { ended = Partition; anchor = anchor; bounds = bounds })
   due_anew anchor bounds away not_later e l g =
-      let filled : bounds.least ≤ℤ bounds.greatest = by_lt_z bounds.greatest bounds.least (λ empty. absurd (own_is_met scene n row f due.next anchor e (none_met anchor bounds l g empty))) (λ le. le) in
+      let filled : bounds.least ≤ℤ bounds.greatest = by_lt_z bounds.greatest bounds.least (λ empty. absurd (anew_is_met scene n row f due.next anchor not_later e (none_met anchor bounds l g empty))) (λ le. le) in
       let b = begin_is anchor bounds l g filled in
       record { begins = b; grows = leaves_apart scene n row f due.next away not_later (made_begin anchor bounds) e b }
 
@@ -437,6 +438,24 @@ interval_ends scene w n h some =
       least_allowed (IsAllowedStep t) t.gauge (anchor_of w.anchor) h.walked.walk.low h.walked.walk.high w.least w.greatest i.is_low.is_bound i.is_high.is_bound i.filled,
       greatest_allowed (IsAllowedStep t) t.gauge (anchor_of w.anchor) h.walked.walk.low h.walked.walk.high w.least w.greatest i.is_low.is_bound i.is_high.is_bound i.filled,
     )
+
+-- the line, with the rate so far, is not too late for an observation
+pub not_late : (t : Terms) (o : Sight) (anchor anchor' : Line) (rate rate' : ℤ) → anchor ≡ anchor' → rate ≡ rate'
+    → line_at t.gauge (anchor_of anchor) rate o.tick ≤ℤ scaled t.gauge (o.time +ℤ t.gauge.tolerance) → IsNotLater t (open_at anchor' rate' []) o
+not_late t o anchor anchor' rate rate' e r h =
+    subst (λ (a : Line). IsNotLater t (open_at a rate' []) o) e (subst (λ (x : ℤ). IsNotLater t (open_at anchor x []) o) r h)
+
+-- the anchor at an observation of a later partition, with the rate so far
+pub anew_at : (scene : SceneView) (row : RowView) (w : WalkView) (anchor line own : Line) (rate : ℤ) (tick : ℕ) → own ≡ w.anchor
+    → rate ≡ rate_so_far (terms scene) w → tick ≡ row.tick
+    → anchor_of line ≡ made tick (rounded_up (terms scene) (open_at own rate []) tick)
+    → anchor_of anchor ≡ made row.tick (int_max (row.time *ℤ pos (10 ^ 6)) line.time.units)
+    → anchor_of anchor ≡ made row.tick (time_anew (terms scene) (open_of (so_far (terms scene) w) []) (sight_at 0 row))
+anew_at scene row w anchor line own rate tick same is there at e =
+    e ∙ ap (λ (x : ℤ). made row.tick (int_max (row.time *ℤ pos (10 ^ 6)) x))
+    (ap (λ (a : Anchor). a.time) at ∙ ap (λ (k : ℕ). rounded_up (terms scene) (open_at own rate []) k) there
+    ∙ ap (λ (a : Line). rounded_up (terms scene) (open_at a rate []) row.tick) same
+    ∙ ap (λ (r : ℤ). rounded_up (terms scene) (open_at w.anchor r []) row.tick) is)
 
 -- the anchor that the line leaves, with the rate so far
 pub anchor_left : (scene : SceneView) (w : WalkView) (anchor : Line) (v : WalkView) (rate : ℤ) → v ≡ w → rate ≡ rate_so_far (terms scene) w

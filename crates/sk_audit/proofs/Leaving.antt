@@ -2,20 +2,21 @@
 use Rattle.std.proofs.Common.{◌≡◌, ℕ, ◌*◌, ◌^◌, ◌<◌, ◌≤◌, Bool, List, [], ◌∷◌, ◌++◌, length, refl, sym, ap, subst, inl, inr, ◌∙◌, arith, if◌then◌else◌}
 use Rattle.std.proofs.lemmas.Int.{ints}
 use Rattle.std.proofs.lemmas.Bool.Decides.{eqb_tells}
-use Rattle.std.specs.Prelude.{ℤ, pos, neg_ℤ, ◌*ℤ◌, ◌≤ℤ◌, ◌<ℤ◌, Some, None}
+use Rattle.std.specs.Prelude.{ℤ, pos, neg_ℤ, ◌+ℤ◌, ◌*ℤ◌, ◌≤ℤ◌, ◌<ℤ◌, Some, None}
 use Rattle.std.specs.List.{AllByRecursion}
 use Rattle.sk_decimal.specs.Quotient.{ceiling_quotient}
 use Rattle.sk_clock.specs.Clock.{ticks_per}
 use Rattle.sk_publishing.specs.Row.{RowView}
-use Rattle.sk_publishing.specs.Terms.{Sight, Terms, in_seconds, partition_at, unit}
+use Rattle.sk_publishing.specs.Terms.{Sight, Terms, partition_at, unit}
 use Rattle.sk_line.specs.Triple.{Anchor}
 use Rattle.sk_publishing.specs.Meets.{Meets, line_at}
 use Rattle.sk_publishing.specs.Rates.{on_grid}
-use Rattle.sk_publishing.specs.Chain.{EndView, FixedEnd, BlockedEnd, SegmentView, IsAllowedStep, left_at, rounded_up, IsInPartition, anchor_due, IsNotLater, IsGridRate, HasRate, IsOldRate, IsChain}
+use Rattle.sk_publishing.specs.Chain.{EndView, FixedEnd, BlockedEnd, SegmentView, IsAllowedStep, left_at, rounded_up, time_anew, IsInPartition, anchor_due, IsNotLater, IsGridRate, HasRate, IsOldRate, IsChain}
 use Rattle.sk_publishing.specs.Built.{Built, beginning}
 use Rattle.sk_publishing.proofs.Steps.{ended_as, split}
 use Rattle.sk_publishing.proofs.Interval.{one_greatest, one_least, none_meets}
 use Rattle.sk_publishing.proofs.Fitting.{middle_meets, first_ends, later_ends, partition_ends}
+use Rattle.sk_publishing.proofs.Anew.{anew_whole, anew_from, anew_to, anew_meets}
 use Rattle.sk_audit.specs.declared.line.Line.{Line}
 use Rattle.sk_audit.specs.declared.told.Told.{Told}
 use Rattle.sk_audit.specs.declared.told.End.{End}
@@ -27,13 +28,14 @@ use Rattle.sk_audit.specs.Walking.{WalkView, begun_at, open_of, IsWalk}
 use Rattle.sk_audit.specs.Pairs.{CanEnd}
 use Rattle.sk_audit.specs.Scene.{SceneView, terms, all_of, IsNext, IsBuiltTo, Grows, IsHere, RunsOver, CanEndAs, LacksRate, IsBeginning, NoneMeets}
 use Rattle.sk_audit.proofs.Moves.{IsLeft, moves_off, after_anchor, after_left, some_front, none_front}
-use Rattle.sk_audit.proofs.Ranges.{between_ticks, due_near, left_is_anchor, meets_anchor, meets_stuck, scaled_from, scaled_to}
+use Rattle.sk_audit.proofs.Quotients.{through}
+use Rattle.sk_audit.proofs.Ranges.{between_ticks, due_near, left_is_anchor, meets_stuck, scaled_from, scaled_to}
 
 -- the anchor due in the same partition
 pub due_here : (t : Terms) (s : SegmentView) (o : Sight) → IsInPartition t s o
     → anchor_due t s o ≡ record { ticks = left_at t s; time = rounded_up t s (left_at t s) }
 due_here t s o here = elim (eqb_tells (partition_at t o.tick) (partition_at t s.anchor.ticks)) [
-  | inl w ↦ ap (λ (b : Bool). if b then other else record { ticks = o.tick; time = in_seconds t.gauge o.time }) w.0
+  | inl w ↦ ap (λ (b : Bool). if b then other else record { ticks = o.tick; time = time_anew t s o }) w.0
   | inr w ↦ absurd (w.1 here)
 ]
   where
@@ -87,10 +89,10 @@ module _ (t : Terms) (all : List Sight) (n : ℕ) (f : WalkView) (o : Sight) (ke
         | inr w ↦ (let p = h.is_open.from_anchor in let q = w.1 in omega arith)
       ]
 
-pub due_away : (t : Terms) (s : SegmentView) (o : Sight) → ¬ IsInPartition t s o → anchor_due t s o ≡ record { ticks = o.tick; time = in_seconds t.gauge o.time }
+pub due_away : (t : Terms) (s : SegmentView) (o : Sight) → ¬ IsInPartition t s o → anchor_due t s o ≡ record { ticks = o.tick; time = time_anew t s o }
 due_away t s o away = elim (eqb_tells (partition_at t o.tick) (partition_at t s.anchor.ticks)) [
   | inl w ↦ absurd (away w.1)
-  | inr w ↦ ap (λ (b : Bool). if b then made (left_at t s) (rounded_up t s (left_at t s)) else made o.tick (in_seconds t.gauge o.time)) w.0
+  | inr w ↦ ap (λ (b : Bool). if b then made (left_at t s) (rounded_up t s (left_at t s)) else made o.tick (time_anew t s o)) w.0
 ]
 
 -- ---- a segment that begins
@@ -197,30 +199,39 @@ module _ (scene : SceneView) (n : ℕ) (row : RowView) (f : WalkView) (next : Is
 
   -- ---- in another partition
 
-  -- the line from the observation itself can be compared with it
-  pub can_meet_own : (anchor : Line) → anchor_of anchor ≡ made row.tick (row.time *ℤ pos (10 ^ 6)) → CanMeet scene.clock anchor row
-  can_meet_own anchor e =
+  -- what is due there
+  abbrev anew_here : Anchor
+  anew_here = made row.tick (time_anew t (open_of f []) o)
+
+  -- the line from there can be compared with the observation
+  pub can_meet_anew : (anchor : Line) → IsNotLater t (open_of f []) o → anchor_of anchor ≡ anew_here → CanMeet scene.clock anchor row
+  can_meet_anew anchor not_later e =
       let from = next.from in
       let to = next.to in
+      let tolerance = next.given.ranges.tolerance_from in
+      let most = next.given.ranges.tolerance_to in
       let ticks : anchor.ticks ≡ row.tick = ap (λ (a : Anchor). a.ticks) e in
-      let time : anchor.time.units ≡ row.time *ℤ pos (10 ^ 6) = ap (λ (a : Anchor). a.time) e in
+      let time : anchor.time.units ≡ time_anew t (open_of f []) o = ap (λ (a : Anchor). a.time) e in
       record {
         not_before = omega arith;
         not_past = next.not_past;
-        from = subst (λ (x : ℤ). neg_ℤ (pos (6 * 10 ^ 37)) ≤ℤ (x *ℤ pos (ticks_per scene.clock))) (sym time) (scaled_from row.time (ticks_per scene.clock) (omega (arith, ints)) next.given.clocked.few);
-        to = subst (λ (x : ℤ). (x *ℤ pos (ticks_per scene.clock)) ≤ℤ pos (6 * 10 ^ 37)) (sym time) (scaled_to row.time (ticks_per scene.clock) (omega (arith, ints)) next.given.clocked.few);
+        from = subst (λ (x : ℤ). neg_ℤ (pos (6 * 10 ^ 37)) ≤ℤ (x *ℤ pos (ticks_per scene.clock))) (sym time)
+            (through _ _ _ (scaled_from row.time (ticks_per scene.clock) (omega (arith, ints)) next.given.clocked.few) (anew_from t (open_of f []) o));
+        to = subst (λ (x : ℤ). (x *ℤ pos (ticks_per scene.clock)) ≤ℤ pos (6 * 10 ^ 37)) (sym time)
+            (through _ _ _ (anew_to t (open_of f []) o next.given.clocked.some (omega (arith, ints)) not_later)
+            (scaled_to (row.time +ℤ scene.settings.tolerance.units) (ticks_per scene.clock) (omega (arith, ints)) next.given.clocked.few));
       }
 
   -- and every rate meets it
-  pub own_is_met : (anchor : Line) → anchor_of anchor ≡ made row.tick (row.time *ℤ pos (10 ^ 6)) → ¬ NoneMeets t anchor (sight_at 0 row)
-  own_is_met anchor e none =
+  pub anew_is_met : (anchor : Line) → IsNotLater t (open_of f []) o → anchor_of anchor ≡ anew_here → ¬ NoneMeets t anchor (sight_at 0 row)
+  anew_is_met anchor not_later e none =
       let tolerance = next.given.ranges.tolerance_from in
       none scene.start.band.least next.given.allowed.least.has
       (subst (λ (a : Anchor). Meets t.gauge a (on_grid t.gauge.rate_decimals scene.start.band.least) (sight_at 0 row)) (sym e)
-      (meets_anchor t.gauge (sight_at 0 row) (on_grid t.gauge.rate_decimals scene.start.band.least) (omega (arith, ints))))
+      (anew_meets t (open_of f []) (sight_at 0 row) next.given.clocked.some (omega (arith, ints)) not_later (on_grid t.gauge.rate_decimals scene.start.band.least)))
 
-  -- one observation more: the open segment ends with its partition, and another one begins with the observation
-  pub leaves_apart : ¬ IsHere scene row f → IsNotLater t (open_of f []) o → (b : Beginning) → anchor_of b.anchor ≡ made row.tick (row.time *ℤ pos (10 ^ 6))
+  -- one observation more: the open segment ends with its partition, and another one begins at the observation
+  pub leaves_apart : ¬ IsHere scene row f → IsNotLater t (open_of f []) o → (b : Beginning) → anchor_of b.anchor ≡ anew_here
       → IsBeginning t (sight_at 0 row) b → Grows scene n row f (begun_at f Partition b n row.tick)
   leaves_apart away not_later b e begun = begins_off Partition b (at_place b begun) left
       (λ kept dropped h. partition_ends t kept h.front (open_of f h.covered) o h.low h.high f.least f.greatest away h.built)
@@ -230,7 +241,8 @@ module _ (scene : SceneView) (n : ℕ) (row : RowView) (f : WalkView) (next : Is
           let due : anchor_of b.anchor ≡ anchor_due t (open_of f h.covered) o = e ∙ sym (due_away t (open_of f h.covered) o away) in
           let ticks : b.anchor.ticks ≡ row.tick = ap (λ (a : Anchor). a.ticks) e in
           let after = after_anchor t all n f h.covered o next.at next.rises h.is_open in
-          let can = can_meet_own b.anchor e in
+          let can = can_meet_anew b.anchor not_later e in
+          let units = anew_whole t (open_of f h.covered) o in
           record {
             due = due;
             not_later = λ _. not_later;
@@ -238,7 +250,7 @@ module _ (scene : SceneView) (n : ℕ) (row : RowView) (f : WalkView) (next : Is
             past = omega arith;
             before = λ same. absurd (away (ap (partition_at t) (sym ticks) ∙ same));
             reached = omega arith;
-            whole = (row.time, ap (λ (a : Anchor). a.time) e);
+            whole = (units.0, ap (λ (a : Anchor). a.time) e ∙ units.1);
             line = record { from = can.from; to = can.to };
           }
 

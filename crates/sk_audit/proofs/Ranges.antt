@@ -90,33 +90,6 @@ due_near scene n row next s met =
     (scaled_from (row.time -ℤ scene.settings.tolerance.units) (ticks_per scene.clock) (omega (arith, ints)) next.given.clocked.few)
     (scaled_to (row.time +ℤ scene.settings.tolerance.units) (ticks_per scene.clock) (omega (arith, ints)) next.given.clocked.few)
 
--- ---- the first observation of another partition
-
--- every rate meets the observation that is the anchor
-pub meets_anchor : (g : Gauge) (o : Sight) (rate : ℤ) → pos 0 ≤ℤ g.tolerance
-    → Meets g (record { ticks = o.tick; time = in_seconds g o.time }) rate o
-meets_anchor g o rate h = record {
-  low = subst (λ (x : ℤ). scaled g (o.time -ℤ g.tolerance) ≤ℤ x) (sym (nothing o.tick (scaled g o.time) rate))
-      (mul-le_right (in_seconds g (o.time -ℤ g.tolerance)) (in_seconds g o.time) g.per_count (mul-le_right (o.time -ℤ g.tolerance) o.time (unit g) (less o.time g.tolerance h)));
-  high = subst (λ (x : ℤ). x ≤ℤ scaled g (o.time +ℤ g.tolerance)) (sym (nothing o.tick (scaled g o.time) rate))
-      (mul-le_right (in_seconds g o.time) (in_seconds g (o.time +ℤ g.tolerance)) g.per_count (mul-le_right o.time (o.time +ℤ g.tolerance) (unit g) (more o.time g.tolerance h)));
-}
-  where
-    less : (a b : ℤ) → pos 0 ≤ℤ b → (a -ℤ b) ≤ℤ a
-    less a b k = omega (arith, ints)
-
-    more : (a b : ℤ) → pos 0 ≤ℤ b → a ≤ℤ (a +ℤ b)
-    more a b k = omega (arith, ints)
-
-    none : (rate : ℤ) (n : ℕ) → n ≡ 0 → (rate *ℤ pos n) ≡ pos 0
-    none rate n e = subst (λ (m : ℕ). (rate *ℤ pos m) ≡ pos 0) (sym e) (omega (arith, ints))
-
-    nothing : (tick : ℕ) (start rate : ℤ) → start +ℤ (rate *ℤ pos (tick - tick)) ≡ start
-    nothing tick start rate = ap (λ (x : ℤ). start +ℤ x) (none rate (tick - tick) (omega arith)) ∙ same start
-      where
-        same : (a : ℤ) → a +ℤ pos 0 ≡ a
-        same a = omega (arith, ints)
-
 -- ---- a segment that covers nothing past its anchor
 
 -- whole units are their own rounded-up time

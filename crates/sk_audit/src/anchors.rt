@@ -1,6 +1,7 @@
 //! Where the line of a segment is, and the anchor that it leaves.
 
 ghost use Rattle.std.specs.Prelude.{◌≡◌, ◌-◌, ◌+◌, ◌*◌, ◌^◌, ◌<◌, ◌≤◌, ℤ, pos, neg_ℤ, ◌+ℤ◌, ◌*ℤ◌, ◌≤ℤ◌, ◌<ℤ◌};
+ghost use Rattle.std.specs.Int.{int_max};
 ghost use Rattle.sk_decimal.specs.Quotient.{floor_quotient, ceiling_quotient};
 ghost use Rattle.sk_line.specs.Line.{line_over};
 ghost use Rattle.sk_publishing.specs.Rates.{on_grid as grid_rate};
@@ -127,14 +128,22 @@ pub fn middle_rate(rate_decimals: u32, least: i128, greatest: i128) -> Fixed<18>
     }
 }
 
-/// An observation as the anchor.
-pub fn anchored_at(obs: &Observation) -> Line
-    ensures { anchor_of result ≡ record { ticks = obs.now.tick; time = obs.now.time *ℤ pos (10 ^ 6) } }
+/// The later of two times.
+fn later_of(a: i128, b: i128) -> i128
+    ensures { result ≡ int_max a b }
 {
+    a.max(b)
+}
+
+/// The anchor at the tick of an observation, at its time or at that of the line there, whichever is later.
+pub fn anchored_at(obs: &Observation, line: Line) -> Line
+    ensures { anchor_of result ≡ record { ticks = obs.now.tick; time = int_max (obs.now.time *ℤ pos (10 ^ 6)) line.time.units } }
+{
+    let seen = in_seconds(obs.time.units);
     Line {
         ticks: obs.tick,
         time: Fixed {
-            units: in_seconds(obs.time.units),
+            units: later_of(seen, line.time.units),
         },
     }
 }

@@ -81,7 +81,7 @@ impl Walk {
         )
     }
 
-    /// The open segment ends with its partition, and the next one begins with the observation as its anchor.
+    /// The open segment ends with its partition, and the next one begins at the tick of the observation.
     pub(crate) fn take_apart(
         &mut self,
         scene: &Scene,
@@ -98,7 +98,8 @@ impl Walk {
         if scene.is_late(self.anchor, rate, obs) {
             return Ok(false);
         }
-        let anchor = anchored_at(obs);
+        let line = scene.anchor_on(self.anchor, rate, obs.tick);
+        let anchor = anchored_at(obs, line);
         let bounds = scene.bounds(anchor, obs);
         self.begin_claimed(
             scene,

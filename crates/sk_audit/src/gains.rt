@@ -100,6 +100,19 @@ fn later(time: i128, tolerance: i128) -> i128
     time + tolerance
 }
 
+/// The last time within the tolerance of the observed one, as 10^-18 s times ticks per count.
+pub fn latest(time: i128, tolerance: i128, ticks_per: u64) -> i128
+    requires time_from { neg_ℤ (pos (9 * 10 ^ 21)) ≤ℤ time }
+    requires time_to { time ≤ℤ pos (9 * 10 ^ 21) }
+    requires tolerance_from { pos 1000 ≤ℤ tolerance }
+    requires tolerance_to { tolerance ≤ℤ pos (60 * 10 ^ 12) }
+    requires few { ticks_per ≤ 2 ^ 32 }
+    ensures { result ≡ ((time +ℤ tolerance) *ℤ pos (10 ^ 6)) *ℤ pos ticks_per }
+{
+    let time = later(time, tolerance);
+    scaled(time, ticks_per)
+}
+
 /// What a rate has to gain from the anchor at least.
 pub fn wanted(time: i128, tolerance: i128, ticks_per: u64, begun: i128) -> i128
     requires time_from { neg_ℤ (pos (9 * 10 ^ 21)) ≤ℤ time }

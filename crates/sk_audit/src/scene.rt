@@ -1,8 +1,8 @@
 //! What a walk goes by: all that it reads and never changes, the claims among it.
 
-ghost use Rattle.std.specs.Prelude.{◌≡◌, ◌↔◌, ◌+◌, ◌<◌, ◌≤◌, ◌^◌, ◌≤ℤ◌, ◌<ℤ◌, IsTrue, true, false, length, slice_get, Some, []};
+ghost use Rattle.std.specs.Prelude.{◌≡◌, ◌↔◌, ◌+◌, ◌<◌, ◌≤◌, ◌^◌, ◌≤ℤ◌, IsTrue, true, false, length, slice_get, Some, []};
 ghost use Rattle.sk_clock.specs.Clock.{total, ticks_per as ticks_per_of, partition_at};
-ghost use Rattle.sk_publishing.specs.Meets.{Meets, line_at as line_of, scaled as scaled_time};
+ghost use Rattle.sk_publishing.specs.Meets.{Meets, IsTooLarge};
 ghost use Rattle.sk_publishing.specs.Rates.{IsLeastRate, IsGreatestRate};
 ghost use Rattle.sk_publishing.specs.Chain.{IsAllowedStep, rounded_up as rounded_up_of};
 ghost use Rattle.sk_publishing.specs.Kept.{is_new};
@@ -13,9 +13,10 @@ ghost use Rattle.sk_audit.specs.Scene.{IsScene, IsNext, claiming, terms};
 ghost use Rattle.sk_audit.specs.Evaluated.{IsBetween};
 
 use crate::anchors::{line_at, middle_rate, rounded_up};
+use crate::gains::latest;
 use crate::line::{Bounds, Line};
 use crate::partitions::are_together;
-use crate::products::{grid, is_less, is_step_between, scaled};
+use crate::products::{grid, is_less, is_step_between};
 use crate::rates::{bounds, meets};
 use crate::settings::AuditSettings;
 use crate::start::Start;
@@ -187,16 +188,19 @@ impl<'a> Scene<'a> {
         is_step_between(grid(self.settings.rate_decimals), rate.units, bounds)
     }
 
-    /// The line is later than the observation.
+    /// The line is later than the observation by more than the tolerance.
     pub fn is_late(&self, anchor: Line, rate: Fixed<18>, obs: &Observation) -> bool
         requires line { HoldsLine (ticks_per_of self.now.clock) anchor }
         requires rate { IsRate rate.units }
         requires ahead { anchor.ticks ≤ obs.now.tick }
         requires short { obs.now.tick ≤ total self.now.clock }
-        ensures { IsTrue result ↔ (scaled_time (terms self.now).gauge obs.now.time <ℤ line_of (terms self.now).gauge (anchor_of anchor) rate.units obs.now.tick) }
+        ensures { IsTrue result ↔ IsTooLarge (terms self.now).gauge (anchor_of anchor) rate.units (sight_at 0 obs.now) }
     {
         let ticks_per = self.clock.ticks_per();
         let line = line_at(anchor, rate.units, obs.tick, ticks_per);
-        is_less(scaled(obs.time.units, ticks_per), line)
+        is_less(
+            latest(obs.time.units, self.settings.tolerance.units, ticks_per),
+            line,
+        )
     }
 }

@@ -46,6 +46,19 @@ x;1/0000001500:000;1600.000000000000;1500.002999992187;99997000007813;2;dropped;
 b;1/0000002000:000;2000.004000000000;2000.003999992187;7813;2;new;last
 ";
 
+/// The first observation of a later partition is before the line, by no more than the tolerance.
+const RESET: &str = "a,tick:3600,tdt:900,0
+b,tick:4000,tdt:999.9995,0
+";
+
+const RESET_BLOCK: &str = "\\begindata
+SCLK01_COEFFICIENTS_99 += ( 4000 1000 1 )
+\\begintext
+residuals;2
+a;1/0000000900:0;900.000000000000;900.000000000000;0;1;new;partition
+b;2/0000000000:0;999.999500000000;1000.000000000000;-500000000;2;new;last
+";
+
 /// What the auditor says of a new kernel over the old one.
 fn judged(
     rt: &(impl Abort + AllocGlobal),
@@ -184,6 +197,58 @@ fn lines_of_the_table_are_all_compared(rt: HostRuntime) -> Result<(), Fail> {
             said(&rt, NINE_DECIMALS, TWO, block.as_str())?.as_str(),
             wanted
         );
+    }
+    Ok(())
+}
+
+#[test]
+fn a_later_partition_begins_on_the_line_before(rt: HostRuntime) -> Result<(), Fail> {
+    let quarters = edited(&rt, OLD, "4294967296 256", "4294967296 4")?;
+    let begun = edited(&rt, quarters.as_str(), "START_99 = 0", "START_99 = ( 0 0 )")?;
+    let old = edited(
+        &rt,
+        begun.as_str(),
+        "END_99 = 1099511627775",
+        "END_99 = ( 4000 1099511627775 )",
+    )?;
+    for (record, part, other, wanted) in [
+        ("999.9995", "( 4000 1000 1 )", "( 4000 1000.0 1 )", "Yes"),
+        (
+            "999.9995",
+            "( 4000 1000 1 )",
+            "( 4000 999.9995 1 )",
+            "No(Chain)",
+        ),
+        (
+            "999.9995",
+            "( 4000 1000 1 )",
+            "( 4000 1000.000000000001 1 )",
+            "No(Chain)",
+        ),
+        (
+            "999.998999999999",
+            "999.999500000000;1000.000000000000;-500000000",
+            "999.998999999999;1000.000000000000;-1000000001",
+            "No(Chain)",
+        ),
+        (
+            "999.999",
+            "999.999500000000;1000.000000000000;-500000000",
+            "999.999000000000;1000.000000000000;-1000000000",
+            "Yes",
+        ),
+    ] {
+        let records = edited(&rt, RESET, "999.9995", record)?;
+        let block = edited(&rt, RESET_BLOCK, part, other)?;
+        let new = format!(in rt.alloc(); "{}{}", old.as_str(), block.as_str())?;
+        let said = judged(
+            &rt,
+            NINE_DECIMALS,
+            records.as_str(),
+            old.as_str(),
+            new.as_str(),
+        )?;
+        assert_eq!(rt; said.as_str(), wanted, "at {record}");
     }
     Ok(())
 }

@@ -2,20 +2,21 @@
 use Rattle.std.proofs.Common.{◌≡◌, ℕ, ◌*◌, ◌^◌, ◌<◌, ◌≤◌, Bool, List, [], ◌∷◌, ◌++◌, length, refl, sym, ap, subst, inl, inr, ◌∙◌, arith, map, if◌then◌else◌}
 use Rattle.std.proofs.lemmas.Int.{ints}
 use Rattle.std.proofs.lemmas.Bool.Decides.{eqb_tells}
-use Rattle.std.specs.Prelude.{ℤ, pos, neg_ℤ, ◌*ℤ◌, ◌≤ℤ◌, ◌<ℤ◌, Some, None}
+use Rattle.std.specs.Prelude.{ℤ, pos, neg_ℤ, ◌+ℤ◌, ◌*ℤ◌, ◌≤ℤ◌, ◌<ℤ◌, Some, None}
 use Rattle.std.specs.List.{AllByRecursion}
 use Rattle.sk_decimal.specs.Quotient.{ceiling_quotient}
 use Rattle.sk_clock.specs.Clock.{ticks_per}
 use Rattle.sk_publishing.specs.Row.{RowView}
-use Rattle.sk_publishing.specs.Terms.{Sight, Terms, in_seconds, partition_at, unit}
+use Rattle.sk_publishing.specs.Terms.{Sight, Terms, partition_at, unit}
 use Rattle.sk_line.specs.Triple.{Anchor}
 use Rattle.sk_publishing.specs.Meets.{Meets, line_at}
 use Rattle.sk_publishing.specs.Rates.{on_grid}
-use Rattle.sk_publishing.specs.Chain.{EndView, FixedEnd, BlockedEnd, SegmentView, IsAllowedStep, left_at, rounded_up, IsInPartition, anchor_due, IsNotLater, IsGridRate, HasRate, IsOldRate, IsChain}
+use Rattle.sk_publishing.specs.Chain.{EndView, FixedEnd, BlockedEnd, SegmentView, IsAllowedStep, left_at, rounded_up, time_anew, IsInPartition, anchor_due, IsNotLater, IsGridRate, HasRate, IsOldRate, IsChain}
 use Rattle.sk_publishing.specs.Built.{Built, beginning}
 use Rattle.sk_publishing.proofs.Steps.{ended_as, split}
 use Rattle.sk_publishing.proofs.Interval.{one_greatest, one_least, none_meets}
 use Rattle.sk_publishing.proofs.Fitting.{middle_meets, first_ends, later_ends, partition_ends}
+use Rattle.sk_publishing.proofs.Anew.{anew_whole, anew_from, anew_to, anew_meets}
 use Rattle.sk_fit.specs.declared.settings.Line.{Line}
 use Rattle.sk_fit.specs.declared.chain.Segment.{Segment}
 use Rattle.sk_fit.specs.declared.chain.End.{End}
@@ -27,13 +28,14 @@ use Rattle.sk_fit.specs.State.{FittingView, begun_at, front_of, open_of, IsFitti
 use Rattle.sk_fit.specs.Pairs.{CanEnd, IsRunning}
 use Rattle.sk_fit.specs.Context.{FitView, terms, all_of, IsNext, IsBuiltTo, Grows, IsHere, CanEndAs, LacksRate, IsBeginning, NoneMeets}
 use Rattle.sk_fit.proofs.Moves.{IsLeft, moves_off, after_anchor, after_left, some_front}
-use Rattle.sk_fit.proofs.Ranges.{between_ticks, due_near, left_is_anchor, meets_anchor, meets_stuck, scaled_from, scaled_to}
+use Rattle.sk_fit.proofs.Quotients.{through}
+use Rattle.sk_fit.proofs.Ranges.{between_ticks, due_near, left_is_anchor, meets_stuck, scaled_from, scaled_to}
 
 -- the anchor due in the same partition
 pub due_here : (t : Terms) (s : SegmentView) (o : Sight) → IsInPartition t s o
     → anchor_due t s o ≡ record { ticks = left_at t s; time = rounded_up t s (left_at t s) }
 due_here t s o here = elim (eqb_tells (partition_at t o.tick) (partition_at t s.anchor.ticks)) [
-  | inl w ↦ ap (λ (b : Bool). if b then other else record { ticks = o.tick; time = in_seconds t.gauge o.time }) w.0
+  | inl w ↦ ap (λ (b : Bool). if b then other else record { ticks = o.tick; time = time_anew t s o }) w.0
   | inr w ↦ absurd (w.1 here)
 ]
   where
@@ -87,10 +89,10 @@ module _ (t : Terms) (all : List Sight) (n : ℕ) (f : FittingView) (o : Sight) 
         | inr w ↦ (let p = h.is_open.from_anchor in let q = w.1 in omega arith)
       ]
 
-pub due_away : (t : Terms) (s : SegmentView) (o : Sight) → ¬ IsInPartition t s o → anchor_due t s o ≡ record { ticks = o.tick; time = in_seconds t.gauge o.time }
+pub due_away : (t : Terms) (s : SegmentView) (o : Sight) → ¬ IsInPartition t s o → anchor_due t s o ≡ record { ticks = o.tick; time = time_anew t s o }
 due_away t s o away = elim (eqb_tells (partition_at t o.tick) (partition_at t s.anchor.ticks)) [
   | inl w ↦ absurd (away w.1)
-  | inr w ↦ ap (λ (b : Bool). if b then made (left_at t s) (rounded_up t s (left_at t s)) else made o.tick (in_seconds t.gauge o.time)) w.0
+  | inr w ↦ ap (λ (b : Bool). if b then made (left_at t s) (rounded_up t s (left_at t s)) else made o.tick (time_anew t s o)) w.0
 ]
 
 -- ---- a segment that begins
@@ -197,36 +199,46 @@ module _ (fit : FitView) (n : ℕ) (row : RowView) (f : FittingView) (next : IsN
 
   -- ---- in another partition
 
-  -- the line from the observation itself can be compared with it
-  pub can_meet_own : (anchor : Line) → anchor_of anchor ≡ made row.tick (row.time *ℤ pos (10 ^ 6)) → CanMeet fit.clock anchor row
-  can_meet_own anchor e =
+  -- what is due there
+  abbrev anew_here : Anchor
+  anew_here = made row.tick (time_anew t (open_of all f) o)
+
+  -- the line from there can be compared with the observation
+  pub can_meet_anew : (anchor : Line) → IsNotLater t (open_of all f) o → anchor_of anchor ≡ anew_here → CanMeet fit.clock anchor row
+  can_meet_anew anchor not_later e =
       let from = next.from in
       let to = next.to in
+      let tolerance = next.given.ranges.tolerance_from in
+      let most = next.given.ranges.tolerance_to in
       let ticks : anchor.ticks ≡ row.tick = ap (λ (a : Anchor). a.ticks) e in
-      let time : anchor.time.units ≡ row.time *ℤ pos (10 ^ 6) = ap (λ (a : Anchor). a.time) e in
+      let time : anchor.time.units ≡ time_anew t (open_of all f) o = ap (λ (a : Anchor). a.time) e in
       record {
         not_before = omega arith;
         not_past = next.not_past;
-        from = subst (λ (x : ℤ). neg_ℤ (pos (6 * 10 ^ 37)) ≤ℤ (x *ℤ pos (ticks_per fit.clock))) (sym time) (scaled_from row.time (ticks_per fit.clock) (omega (arith, ints)) next.given.clocked.few);
-        to = subst (λ (x : ℤ). (x *ℤ pos (ticks_per fit.clock)) ≤ℤ pos (6 * 10 ^ 37)) (sym time) (scaled_to row.time (ticks_per fit.clock) (omega (arith, ints)) next.given.clocked.few);
+        from = subst (λ (x : ℤ). neg_ℤ (pos (6 * 10 ^ 37)) ≤ℤ (x *ℤ pos (ticks_per fit.clock))) (sym time)
+            (through _ _ _ (scaled_from row.time (ticks_per fit.clock) (omega (arith, ints)) next.given.clocked.few) (anew_from t (open_of all f) o));
+        to = subst (λ (x : ℤ). (x *ℤ pos (ticks_per fit.clock)) ≤ℤ pos (6 * 10 ^ 37)) (sym time)
+            (through _ _ _ (anew_to t (open_of all f) o next.given.clocked.some (omega (arith, ints)) not_later)
+            (scaled_to (row.time +ℤ fit.settings.tolerance.units) (ticks_per fit.clock) (omega (arith, ints)) next.given.clocked.few));
       }
 
   -- and every rate meets it
-  pub own_is_met : (anchor : Line) → anchor_of anchor ≡ made row.tick (row.time *ℤ pos (10 ^ 6)) → ¬ NoneMeets t anchor (sight_at 0 row)
-  own_is_met anchor e none =
+  pub anew_is_met : (anchor : Line) → IsNotLater t (open_of all f) o → anchor_of anchor ≡ anew_here → ¬ NoneMeets t anchor (sight_at 0 row)
+  anew_is_met anchor not_later e none =
       let tolerance = next.given.ranges.tolerance_from in
       none fit.start.band.least next.given.allowed.least.has
       (subst (λ (a : Anchor). Meets t.gauge a (on_grid t.gauge.rate_decimals fit.start.band.least) (sight_at 0 row)) (sym e)
-      (meets_anchor t.gauge (sight_at 0 row) (on_grid t.gauge.rate_decimals fit.start.band.least) (omega (arith, ints))))
+      (anew_meets t (open_of all f) (sight_at 0 row) next.given.clocked.some (omega (arith, ints)) not_later (on_grid t.gauge.rate_decimals fit.start.band.least)))
 
-  -- one observation more: the open segment ends with its partition, and another one begins with the observation
-  pub leaves_apart : IsBuiltTo fit n f → ¬ IsHere fit n row f → IsNotLater t (open_of all f) o → (b : Beginning) → anchor_of b.anchor ≡ made row.tick (row.time *ℤ pos (10 ^ 6))
+  -- one observation more: the open segment ends with its partition, and another one begins at the observation
+  pub leaves_apart : IsBuiltTo fit n f → ¬ IsHere fit n row f → IsNotLater t (open_of all f) o → (b : Beginning) → anchor_of b.anchor ≡ anew_here
       → IsBeginning t (sight_at 0 row) b → Grows fit n row f (begun_at f Partition b n row.tick)
   leaves_apart built away not_later b e begun =
       let due : anchor_of b.anchor ≡ anchor_due t (open_of all f) o = e ∙ sym (due_away t (open_of all f) o away) in
       let ticks : b.anchor.ticks ≡ row.tick = ap (λ (a : Anchor). a.ticks) e in
       let after = after_anchor t all n f o built.1 next.at next.rises built.2.is_open built.2.places in
-      let can = can_meet_own b.anchor e in
+      let can = can_meet_anew b.anchor not_later e in
+      let units = anew_whole t (open_of all f) o in
       begins_off Partition b (at_place b begun) (record {
         due = due;
         not_later = λ _. not_later;
@@ -234,7 +246,7 @@ module _ (fit : FitView) (n : ℕ) (row : RowView) (f : FittingView) (next : IsN
         past = omega arith;
         before = λ same. absurd (away (ap (partition_at t) (sym ticks) ∙ same));
         reached = omega arith;
-        whole = (row.time, ap (λ (a : Anchor). a.time) e);
+        whole = (units.0, ap (λ (a : Anchor). a.time) e ∙ units.1);
         line = record { from = can.from; to = can.to };
       }) (λ kept dropped h. partition_ends t kept (front_of all f) (open_of all f) o h.low h.high f.least f.greatest away h.built)
 

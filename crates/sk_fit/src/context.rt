@@ -1,8 +1,8 @@
 //! What a fit goes by: all that it reads and never changes.
 
-ghost use Rattle.std.specs.Prelude.{◌≡◌, ◌↔◌, ◌+◌, ◌<◌, ◌≤◌, ◌^◌, ◌≤ℤ◌, ◌<ℤ◌, IsTrue, true, length, slice_get, Some, []};
+ghost use Rattle.std.specs.Prelude.{◌≡◌, ◌↔◌, ◌+◌, ◌<◌, ◌≤◌, ◌^◌, ◌≤ℤ◌, IsTrue, true, length, slice_get, Some, []};
 ghost use Rattle.sk_clock.specs.Clock.{total, ticks_per as ticks_per_of, partition_at};
-ghost use Rattle.sk_publishing.specs.Meets.{Meets, line_at as line_of, scaled as scaled_time};
+ghost use Rattle.sk_publishing.specs.Meets.{Meets, IsTooLarge};
 ghost use Rattle.sk_publishing.specs.Rates.{IsLeastRate, IsGreatestRate};
 ghost use Rattle.sk_publishing.specs.Chain.{IsAllowedStep, rounded_up as rounded_up_of};
 ghost use Rattle.sk_publishing.specs.Kept.{is_new};
@@ -15,8 +15,9 @@ ghost use Rattle.sk_fit.specs.Context.{IsFit, IsNext, terms};
 use crate::anchors::{line_at, middle_rate, rounded_up};
 use crate::chain::{End, Segment};
 use crate::fault::Barrier;
+use crate::gains::latest;
 use crate::partitions::are_together;
-use crate::products::{is_less, scaled};
+use crate::products::is_less;
 use crate::rates::{bounds, meets};
 use crate::settings::{Bounds, Line, Settings};
 use crate::start::Start;
@@ -165,16 +166,19 @@ impl<'a> Fit<'a> {
         }
     }
 
-    /// The line of a segment is later than the observation.
+    /// The line of a segment is later than the observation by more than the tolerance.
     pub fn is_late(&self, segment: Segment, obs: &Observation) -> bool
         requires line { HoldsLine (ticks_per_of self.now.clock) segment.anchor }
         requires rate { IsRate segment.rate.units }
         requires ahead { segment.anchor.ticks ≤ obs.now.tick }
         requires short { obs.now.tick ≤ total self.now.clock }
-        ensures { IsTrue result ↔ (scaled_time (terms self.now).gauge obs.now.time <ℤ line_of (terms self.now).gauge (anchor_of segment.anchor) segment.rate.units obs.now.tick) }
+        ensures { IsTrue result ↔ IsTooLarge (terms self.now).gauge (anchor_of segment.anchor) segment.rate.units (sight_at 0 obs.now) }
     {
         let ticks_per = self.clock.ticks_per();
         let line = line_at(segment.anchor, segment.rate.units, obs.tick, ticks_per);
-        is_less(scaled(obs.time.units, ticks_per), line)
+        is_less(
+            latest(obs.time.units, self.settings.tolerance.units, ticks_per),
+            line,
+        )
     }
 }

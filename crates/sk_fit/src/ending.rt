@@ -2,7 +2,7 @@
 
 ghost use Rattle.std.specs.Prelude.{◌≡◌, ◌+◌, ◌^◌, ◌<◌, ◌≤◌, OnOk, OnErr, IfSome, IfNone, true, false, Ok, ◌≢◌};
 ghost use Rattle.sk_clock.specs.Clock.{ticks_per};
-ghost use Rattle.sk_publishing.specs.Chain.{IsNotLater, rounded_up};
+ghost use Rattle.sk_publishing.specs.Chain.{IsNotLater, rounded_up, time_anew};
 ghost use Rattle.sk_fit.specs.Given.{CanMeet, IsRate, anchor_of, sight_at};
 ghost use Rattle.sk_fit.specs.State.{HoldsLine, begun_at, open_of};
 ghost use Rattle.sk_fit.specs.Context.{terms, all_of, IsNext, IsBuiltTo, Grows, IsHere, CanEndAs, LacksRate, IsBeginning, NoneMeets};
@@ -70,7 +70,7 @@ impl Fitting {
         }
     }
 
-    /// The open segment ends with its partition, and another one begins with the observation as its anchor.
+    /// The open segment ends with its partition, and another one begins at the tick of the observation.
     pub(crate) fn leave_apart(
         &mut self,
         fit: &Fit,
@@ -84,7 +84,8 @@ impl Fitting {
         ensures ok { OnOk result (Grows fit.now place obs.now self.old self.new) }
         ensures err { OnErr result (self.new ≡ self.old) }
     {
-        let Some(beginning) = beginning_at(fit, anchored_at(obs), obs) else {
+        let anchor = self.anchor_anew(fit, obs);
+        let Some(beginning) = beginning_at(fit, anchor, obs) else {
             unreachable!();
         };
         self.begin(End::Partition, beginning, place, obs.tick)?;
@@ -100,6 +101,18 @@ impl Fitting {
         ensures { anchor_of result ≡ record { ticks = self.now.leave_tick; time = rounded_up (terms fit.now) (open_of (all_of fit.now) self.now) self.now.leave_tick } }
     {
         fit.anchor_on(self.open_one, self.leave_tick)
+    }
+
+    /// The anchor at an observation of a later partition.
+    fn anchor_anew(&self, fit: &Fit, obs: &Observation) -> Line
+        requires line { HoldsLine (ticks_per fit.now.clock) self.now.open_one.anchor }
+        requires rate { IsRate self.now.open_one.rate.units }
+        requires ahead { self.now.open_one.anchor.ticks ≤ obs.now.tick }
+        requires short { obs.now.tick < 2 ^ 53 }
+        ensures { anchor_of result ≡ record { ticks = obs.now.tick; time = time_anew (terms fit.now) (open_of (all_of fit.now) self.now) (sight_at 0 obs.now) } }
+    {
+        let line = fit.anchor_on(self.open_one, obs.tick);
+        anchored_at(obs, line)
     }
 
     /// The open segment ends, and another one begins with a place.

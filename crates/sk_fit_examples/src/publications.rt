@@ -1,6 +1,6 @@
 use crate::kernels::{
-    Asked, DEFAULTS, NINE_DECIMALS, ONE_PARTITION, THREE_TICKS, TWO_PARTITIONS, observations, pool,
-    settings,
+    Asked, DEFAULTS, NINE_DECIMALS, ONE_PARTITION, THREE_TICKS, TWO_OF_QUARTERS, TWO_PARTITIONS,
+    observations, pool, settings,
 };
 use sk_clock::Clock;
 use sk_fit::{Chain, FitFault, fit};
@@ -106,6 +106,48 @@ fn more_partitions(rt: HostRuntime) -> Result<(), Fail> {
     ];
     for (asked, records, want) in table {
         let got = answer(&rt, TWO_PARTITIONS, "0 0 1", asked, records)?;
+        assert_eq!(rt; got.as_str(), want, "at {records}");
+    }
+    Ok(())
+}
+
+#[test]
+fn the_line_before_a_later_partition(rt: HostRuntime) -> Result<(), Fail> {
+    let fine = Asked {
+        rate_decimals: 15,
+        ..DEFAULTS
+    };
+    let table = [
+        (
+            NINE_DECIMALS,
+            "a,tick:3600,tdt:900,0\nb,tick:4000,tdt:1000.5,0\n",
+            "0 | 0 0 1000000000000000000 0-1 Partition | 4000 1000500000000000000000 1000000000000000000 1-2 Last",
+        ),
+        // The line is later than b, by no more than the tolerance.
+        (
+            NINE_DECIMALS,
+            "a,tick:3600,tdt:900,0\nb,tick:4000,tdt:999.9995,0\n",
+            "0 | 0 0 1000000000000000000 0-1 Partition | 4000 1000000000000000000000 1000000000000000000 1-2 Last",
+        ),
+        (
+            NINE_DECIMALS,
+            "a,tick:3600,tdt:900,0\nb,tick:4000,tdt:999.999,0\n",
+            "0 | 0 0 1000000000000000000 0-1 Partition | 4000 1000000000000000000000 1000000000000000000 1-2 Last",
+        ),
+        (
+            NINE_DECIMALS,
+            "a,tick:3600,tdt:900,0\nb,tick:4000,tdt:999.998999999999,0\n",
+            "TimeFalls(3)",
+        ),
+        // The line at c is 1000.00444549465942225 s.
+        (
+            fine,
+            "a,tick:1200,tdt:300.002,0\nb,tick:3600,tdt:900.004,0\nc,tick:4000,tdt:1000.0035,0\n",
+            "0 | 0 0 1000000000000000000 0-0 Fixed | 1 250000000000000000 1000004446606311000 0-2 Partition | 4000 1000004445494660000000 1000000000000000000 2-3 Last",
+        ),
+    ];
+    for (asked, records, want) in table {
+        let got = answer(&rt, TWO_OF_QUARTERS, "0 0 1", asked, records)?;
         assert_eq!(rt; got.as_str(), want, "at {records}");
     }
     Ok(())

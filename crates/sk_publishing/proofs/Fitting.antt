@@ -6,7 +6,7 @@ use Rattle.std.specs.List.{AllByRecursion}
 use Rattle.sk_decimal.specs.Quotient.{floor_quotient}
 use Rattle.sk_publishing.specs.Terms.{Sight, Terms, partition_at, grid}
 use Rattle.sk_line.specs.Triple.{Anchor}
-use Rattle.sk_publishing.specs.Meets.{Meets, line_at, scaled}
+use Rattle.sk_publishing.specs.Meets.{IsTooLarge, Meets}
 use Rattle.sk_publishing.specs.Rates.{on_grid, IsLeastRate, IsGreatestRate, IsFirstGreatest, IsFirstLeast}
 use Rattle.sk_publishing.specs.Chain.{PartitionEnd, FixedEnd, BlockedEnd, SegmentView, IsAllowedStep, IsInPartition, IsGridRate, anchor_due, IsNotLater, IsChain}
 use Rattle.sk_publishing.specs.Kept.{is_new, HasNoRate, HasTimeFall, SortsNext}
@@ -174,7 +174,7 @@ module _ (t : Terms) where
   }
 
   pub has_time_fall : (kept : List Sight) (front : List SegmentView) (last : SegmentView) (o : Sight)
-      → ¬ IsInPartition t last o → scaled t.gauge o.time <ℤ line_at t.gauge last.anchor last.rate o.tick
+      → ¬ IsInPartition t last o → IsTooLarge t.gauge last.anchor last.rate o
       → IsChain t kept (Some o) (front ++ last ∷ []) → HasTimeFall t kept o
   has_time_fall kept front last o away falls chain = record {
     chain = front ++ last ∷ [];

@@ -5,6 +5,7 @@ pub mod Sorting
 pub mod Interval
 pub mod Steps
 pub mod RoundedUp
+pub mod Anew
 pub mod NewKernel
 pub mod Division
 pub mod Fitting

@@ -1,19 +1,20 @@
 -- The times of a kernel with new triples.
-use Rattle.std.proofs.Common.{◌≡◌, ℕ, ◌+◌, ◌-◌, ◌<◌, ◌≤◌, List, [], ◌∷◌, ◌++◌, length, refl, sym, ap, subst, inl, inr, ◌∙◌, append_assoc, arith, true, false}
+use Rattle.std.proofs.Common.{◌≡◌, ℕ, ◌+◌, ◌<◌, ◌≤◌, List, [], ◌∷◌, ◌++◌, length, refl, sym, ap, subst, inl, inr, ◌∙◌, append_assoc, arith, true, false}
 use Rattle.std.proofs.lemmas.Int.{ints}
 use Rattle.std.proofs.lemmas.Bool.Decides.{eqb_tells, nat_tests}
 use Rattle.std.specs.Prelude.{ℤ, pos, ◌+ℤ◌, ◌-ℤ◌, ◌*ℤ◌, ◌≤ℤ◌, Option, Some, None, nat_le, flat_map}
 use Rattle.std.specs.List.{AllByRecursion}
-use Rattle.sk_publishing.specs.Terms.{Sight, Terms, partition_at, seam, in_seconds}
+use Rattle.sk_publishing.specs.Terms.{Sight, Terms, partition_at, seam}
 use Rattle.sk_line.specs.Triple.{Anchor, TripleView}
 use Rattle.sk_line.specs.Line.{line_over, covering_from}
 use Rattle.sk_publishing.specs.Meets.{line_at, scaled, Meets}
-use Rattle.sk_publishing.specs.Chain.{SegmentView, first_of, last_of, covered_by, EachFollowed, EachJoined, ForNext, IsInPartition, IsGridRate, HasRate, anchor_due, left_at, rounded_up, IsNotLater}
+use Rattle.sk_publishing.specs.Chain.{SegmentView, first_of, last_of, covered_by, EachFollowed, EachJoined, ForNext, IsInPartition, IsGridRate, HasRate, anchor_due, left_at, rounded_up, time_anew, IsNotLater}
 use Rattle.sk_publishing.specs.Laws.{SightsRise, TriplesRise, ToleranceLaw, NoFallLaw}
 use Rattle.sk_publishing.specs.Meets.{IsWithinTolerance}
 use Rattle.sk_line.proofs.Lists.{all_front, all_back, all_append, all_map, heads}
 use Rattle.sk_publishing.proofs.Chains.{due_of, starts}
 use Rattle.sk_publishing.proofs.RoundedUp.{rounding_law}
+use Rattle.sk_publishing.proofs.Anew.{anew_in_order, at_anchor}
 
 -- ---- no join of a chain falls
 
@@ -39,7 +40,7 @@ module _ (t : Terms) where
   ]
 
   pub due_anew : (before : SegmentView) (o : Sight) → ¬ IsInPartition t before o
-      → anchor_due t before o ≡ record { ticks = o.tick; time = in_seconds t.gauge o.time }
+      → anchor_due t before o ≡ record { ticks = o.tick; time = time_anew t before o }
   due_anew before o h = elim (eqb_tells (partition_at t o.tick) (partition_at t before.anchor.ticks)) [
     | inl e ↦ absurd (h e.1)
     | inr e ↦ rw e.0 refl
@@ -52,11 +53,8 @@ module _ (t : Terms) where
       → Within before s → Anew before s → NotFalling before s
   not_falling before s o m h e within anew = elim (eqb_tells (partition_at t o.tick) (partition_at t before.anchor.ticks)) [
     | inl p ↦ subst (Ends before) (sym (due_of t before s o m e within anew ∙ due_within before o p.1)) (rounding_law.order t before (left_at t before) h)
-    | inr p ↦ subst (Ends before) (sym (due_of t before s o m e within anew ∙ due_anew before o p.1)) (moved p.1)
+    | inr p ↦ subst (Ends before) (sym (due_of t before s o m e within anew ∙ due_anew before o p.1)) (anew_in_order t before o h)
   ]
-    where
-      moved : ¬ IsInPartition t before o → line_over t.gauge.per_count before.anchor before.rate o.tick ≤ℤ (in_seconds t.gauge o.time *ℤ pos t.gauge.per_count)
-      moved p = (subst (λ (f : Option Sight). ForNext f (λ o. ¬ IsInPartition t before o → (s.anchor ≡ anchor_due t before o) × IsNotLater t before o)) (ap first_of e) anew p).1
 
   joins : (before : SegmentView) (later : List SegmentView) → 0 < t.gauge.per_count → AllByRecursion (λ l. 0 < length l.covered) later
       → EachJoined Within (before ∷ later) → EachJoined Anew (before ∷ later) → EachJoined NotFalling (before ∷ later)
@@ -88,13 +86,6 @@ last_covers n (x ∷ xs) ys a tick r le above =
     let rec = last_covers (n + 1) xs ys a tick r.1 le above in
     let first : x.anchor.ticks < a.anchor.ticks = (all_back _ xs (a ∷ ys) r.0).0 in
     (rec.0, rw (le_true x.anchor.ticks tick (omega arith), rec.1) refl)
-
--- the time at an anchor is the anchor's
-at_anchor : (per : ℕ) (a : Anchor) (r : ℤ) (tick : ℕ) → tick ≡ a.ticks → line_over per a r tick ≡ a.time *ℤ pos per
-at_anchor per a r tick e = none (tick - a.ticks) (omega arith)
-  where
-    none : (d : ℕ) → d ≡ 0 → (a.time *ℤ pos per) +ℤ (r *ℤ pos d) ≡ a.time *ℤ pos per
-    none d z = subst (λ (k : ℕ). (a.time *ℤ pos per) +ℤ (r *ℤ pos k) ≡ a.time *ℤ pos per) (sym z) (omega (arith, ints))
 
 -- ---- ticks of sights that rise
 

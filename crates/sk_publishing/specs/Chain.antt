@@ -1,5 +1,6 @@
 -- Segments, and the lists of segments that make a publication.
-use Rattle.std.specs.Prelude.{◌≡◌, ℕ, ◌*◌, ◌<◌, ℤ, ◌≤ℤ◌, ◌==◌, List, [], ◌∷◌, ◌++◌, length, flat_map, Option, Some, None, if◌then◌else◌}
+use Rattle.std.specs.Prelude.{◌≡◌, ℕ, ◌*◌, ◌<◌, ℤ, ◌+ℤ◌, ◌≤ℤ◌, ◌==◌, List, [], ◌∷◌, ◌++◌, length, flat_map, Option, Some, None, if◌then◌else◌}
+use Rattle.std.specs.Int.{int_max}
 use Rattle.std.specs.List.{Any, AllByRecursion}
 use Rattle.sk_decimal.specs.Quotient.{ceiling_quotient}
 use Rattle.sk_publishing.specs.Terms.{Sight, Terms, unit, in_seconds, partition_at, seam}
@@ -97,16 +98,20 @@ left_at t s = elim (last_of s.covered) [ None ↦ seam t | Some o ↦ o.tick ]
 abbrev pub rounded_up : Terms → SegmentView → ℕ → ℤ
 rounded_up t s tick = in_seconds t.gauge (ceiling_quotient (line_at t.gauge s.anchor s.rate tick) (unit t.gauge * t.gauge.per_count))
 
--- The anchor due for a segment that begins with o: in the same partition where the line was left, and else o itself.
+-- the later of two times: that of o, and the line at its tick, rounded up
+abbrev pub time_anew : Terms → SegmentView → Sight → ℤ
+time_anew t before o = int_max (in_seconds t.gauge o.time) (rounded_up t before o.tick)
+
+-- The anchor due for a segment that begins with o: where the line was left, and in a later partition at o.
 abbrev pub anchor_due : Terms → SegmentView → Sight → Anchor
 anchor_due t before o =
     if partition_at t o.tick == partition_at t before.anchor.ticks
     then record { ticks = left_at t before; time = rounded_up t before (left_at t before) }
-    else record { ticks = o.tick; time = in_seconds t.gauge o.time }
+    else record { ticks = o.tick; time = time_anew t before o }
 
--- the line is not later than the observation
+-- the line is later than the observation by at most the tolerance
 abbrev pub IsNotLater : Terms → SegmentView → Sight → Type 0
-IsNotLater t before o = line_at t.gauge before.anchor before.rate o.tick ≤ℤ scaled t.gauge o.time
+IsNotLater t before o = line_at t.gauge before.anchor before.rate o.tick ≤ℤ scaled t.gauge (o.time +ℤ t.gauge.tolerance)
 
 -- ---- the parts of a publication
 
@@ -139,7 +144,7 @@ abbrev pub AreAnchored : Terms → List SegmentView → Type 0
 AreAnchored t chain = EachJoined (λ before s. ForNext (first_of s.covered) (λ o. IsInPartition t before o →
     s.anchor ≡ anchor_due t before o)) chain
 
--- each later segment in another partition has its first observation as the anchor, and time does not fall there
+-- each later segment in another partition has the anchor due at its first observation, and no line too late for it
 abbrev pub AreAnchoredAnew : Terms → List SegmentView → Type 0
 AreAnchoredAnew t chain = EachJoined (λ before s. ForNext (first_of s.covered) (λ o. ¬ IsInPartition t before o →
     (s.anchor ≡ anchor_due t before o) × IsNotLater t before o)) chain

@@ -1,7 +1,7 @@
 -- Which observations are new, which of these are dropped, and what a publication is.
-use Rattle.std.specs.Prelude.{◌≡◌, ◌⊎◌, ◌<◌, ℤ, ◌<ℤ◌, None, Bool, true, false, ◌||◌, nat_lt, List, [], ◌∷◌, ◌++◌, length}
+use Rattle.std.specs.Prelude.{◌≡◌, ◌⊎◌, ◌<◌, ℤ, None, Bool, true, false, ◌||◌, nat_lt, List, [], ◌∷◌, ◌++◌, length}
 use Rattle.sk_publishing.specs.Terms.{Sight, Terms, partition_at, seam}
-use Rattle.sk_publishing.specs.Meets.{Meets, line_at, scaled}
+use Rattle.sk_publishing.specs.Meets.{Meets, IsTooLarge}
 use Rattle.sk_publishing.specs.Rates.{on_grid}
 use Rattle.sk_publishing.specs.Chain.{IsAllowedStep, SegmentView, IsChainSoFar, IsChain, IsInPartition, anchor_due}
 
@@ -22,14 +22,14 @@ pub record HasNoRate (t : Terms) (kept : List Sight) (o : Sight) : Type 0 where
   pub same_partition : IsInPartition t last o
   pub none : (n : ℤ) → IsAllowedStep t n → ¬ Meets t.gauge (anchor_due t last o) (on_grid t.gauge.rate_decimals n) o
 
--- o is in a later partition, and the last line is later than its time there
+-- o is in a later partition, and the last line is later than its time and the tolerance there
 pub record HasTimeFall (t : Terms) (kept : List Sight) (o : Sight) : Type 0 where
   pub chain : List SegmentView
   pub last : SegmentView
   pub so_far : IsChainSoFar t kept o chain
   pub is_last : EndsWith chain last
   pub later_partition : ¬ IsInPartition t last o
-  pub falls : scaled t.gauge o.time <ℤ line_at t.gauge last.anchor last.rate o.tick
+  pub falls : IsTooLarge t.gauge last.anchor last.rate o
 
 -- o is dropped, where these are kept and dropped before it
 pub record IsDropped (t : Terms) (kept dropped : List Sight) (o : Sight) : Type 0 where
@@ -74,7 +74,7 @@ pub record StopsAtNoRate (t : Terms) (all : List Sight) (o : Sight) : Type 0 whe
   pub used_up : length dropped ≡ t.reject
   pub no_rate : HasNoRate t kept o
 
--- the last line is later than o, which is in a later partition
+-- the last line is too late for o, which is in a later partition
 pub record StopsAtTimeFall (t : Terms) (all : List Sight) (o : Sight) : Type 0 where
   pub before : List Sight
   pub after : List Sight

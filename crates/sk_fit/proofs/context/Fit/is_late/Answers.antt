@@ -1,7 +1,8 @@
-use Rattle.std.proofs.Common.{◌≡◌, ℕ, ◌^◌, rules, subst, sym, ap, ◌∙◌}
+use Rattle.std.proofs.Common.{◌≡◌, ℕ, ◌^◌, arith, rules, subst, sym, ap, ◌∙◌}
+use Rattle.std.proofs.lemmas.Int.{ints}
 use mir.Syntax.{w128}
 use mir.Val.{to_z, of_z}
-use Rattle.std.specs.Prelude.{ℤ, pos, ◌*ℤ◌, ◌<ℤ◌}
+use Rattle.std.specs.Prelude.{ℤ, pos, ◌+ℤ◌, ◌*ℤ◌, ◌<ℤ◌}
 use Rattle.sk_clock.specs.Clock.{ticks_per}
 use Rattle.sk_publishing.specs.Row.{RowView}
 use Rattle.sk_publishing.specs.Terms.{Gauge}
@@ -9,7 +10,7 @@ use Rattle.sk_publishing.specs.Meets.{line_at, scaled}
 use Rattle.sk_line.specs.Line.{line_over}
 use Rattle.sk_fit.specs.Given.{anchor_of}
 use Rattle.sk_fit.specs.Context.{FitView, terms}
-use Rattle.sk_fit.proofs.Quotients.{passed_on, passed_seen}
+use Rattle.sk_fit.proofs.Quotients.{passed_on, passed_small, passed_seen}
 use Rattle.sk_fit.proofs.context.Fit.is_late.Goals as goal
 
 pub returns : goal.returns
@@ -25,11 +26,15 @@ returns c =
     ∙ ap (λ (m : ℕ). line_over m (anchor_of c.args.segment.anchor) c.args.segment.rate.units c.args.obs.now.tick) count in
     let seen : to_z w128 (of_z w128 c.obs.inside.time.units) ≡ c.args.obs.now.time =
     passed_seen c.obs.inside.time.units c.obs.invariant.time ∙ ap (λ (r : RowView). r.time) c.obs.view_is in
-    let time : to_z w128 (of_z w128 c.scaled.result) ≡ scaled g c.args.obs.now.time =
-    passed_on c.scaled.result c.scaled.type_inv ∙ c.scaled.ensures.value
-    ∙ ap (λ (x : ℤ). (x *ℤ pos (10 ^ 6)) *ℤ pos c.ticks_per-ticks_per.result) seen
-    ∙ ap (λ (m : ℕ). (c.args.obs.now.time *ℤ pos (10 ^ 6)) *ℤ pos m) count in (
-      (λ h. subst (λ (x : ℤ). scaled g c.args.obs.now.time <ℤ x) line (subst (λ (x : ℤ). x <ℤ to_z w128 (of_z w128 c.line_at-line.result)) time (c.is_less.ensures.0 h))),
+    let tolerance : to_z w128 (of_z w128 c.self.inside.settings.tolerance.units) ≡ g.tolerance =
+    passed_small _ (omega (arith, ints)) (omega (arith, ints)) ∙ ap (λ (v : FitView). v.settings.tolerance.units) c.self.view_is in
+    let latest : ℤ = scaled g (c.args.obs.now.time +ℤ g.tolerance) in
+    let time : to_z w128 (of_z w128 c.latest.result) ≡ latest =
+    passed_on c.latest.result c.latest.type_inv ∙ c.latest.ensures
+    ∙ ap (λ (x : ℤ). ((x +ℤ to_z w128 (of_z w128 c.self.inside.settings.tolerance.units)) *ℤ pos (10 ^ 6)) *ℤ pos c.ticks_per-ticks_per.result) seen
+    ∙ ap (λ (x : ℤ). ((c.args.obs.now.time +ℤ x) *ℤ pos (10 ^ 6)) *ℤ pos c.ticks_per-ticks_per.result) tolerance
+    ∙ ap (λ (m : ℕ). ((c.args.obs.now.time +ℤ g.tolerance) *ℤ pos (10 ^ 6)) *ℤ pos m) count in (
+      (λ h. subst (λ (x : ℤ). latest <ℤ x) line (subst (λ (x : ℤ). x <ℤ to_z w128 (of_z w128 c.line_at-line.result)) time (c.is_less.ensures.0 h))),
       (λ h. c.is_less.ensures.1 (subst (λ (x : ℤ). x <ℤ to_z w128 (of_z w128 c.line_at-line.result)) (sym time)
-          (subst (λ (x : ℤ). scaled g c.args.obs.now.time <ℤ x) (sym line) h))),
+          (subst (λ (x : ℤ). latest <ℤ x) (sym line) h))),
     )

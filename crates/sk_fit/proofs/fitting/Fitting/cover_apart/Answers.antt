@@ -1,7 +1,7 @@
 use Rattle.std.proofs.Common.{◌≡◌, subst, ap, arith}
-use Rattle.std.specs.Prelude.{◌≤ℤ◌, ◌<ℤ◌}
+use Rattle.std.specs.Prelude.{◌+ℤ◌, ◌≤ℤ◌}
 use Rattle.sk_publishing.specs.Terms.{Sight, Terms}
-use Rattle.sk_publishing.specs.Meets.{line_at, scaled}
+use Rattle.sk_publishing.specs.Meets.{line_at, scaled, IsTooLarge}
 use Rattle.sk_publishing.specs.Chain.{PartitionEnd}
 use Rattle.sk_publishing.proofs.Steps.{ended_as}
 use Rattle.sk_publishing.proofs.Fitting.{has_time_fall, partition_ends}
@@ -24,7 +24,7 @@ returns-then-is_late-clause-falls c e kept dropped h =
     let o : Sight = sight_at c.args.place c.args.obs.now in
     let f : FittingView = c.args.self.now in
     let same : c.self.inside.open_one ≡ f.open_one = ap (λ (v : FittingView). v.open_one) c.self.view_is in
-    let late = subst (λ (s : Segment). scaled t.gauge o.time <ℤ line_at t.gauge (anchor_of s.anchor) s.rate.units o.tick) same (c.is_late.ensures.0 c.if-is_late.true) in
+    let late = subst (λ (s : Segment). IsTooLarge t.gauge (anchor_of s.anchor) s.rate.units o) same (c.is_late.ensures.0 c.if-is_late.true) in
     has_time_fall t kept (front_of (all_of c.args.fit.now) f) (ended_as t (open_of (all_of c.args.fit.now) f) PartitionEnd) o c.requires.away late
     (partition_ends t kept (front_of (all_of c.args.fit.now) f) (open_of (all_of c.args.fit.now) f) o h.low h.high f.least f.greatest c.requires.away h.built)
 
@@ -32,5 +32,5 @@ pub leave_apart-requires-clause-not_late : goal.leave_apart-requires-clause-not_
 leave_apart-requires-clause-not_late c =
     let t : Terms = terms c.args.fit.now in
     let o : Sight = sight_at c.args.place c.args.obs.now in
-    subst (λ (s : Segment). line_at t.gauge (anchor_of s.anchor) s.rate.units o.tick ≤ℤ scaled t.gauge o.time) (ap (λ (v : FittingView). v.open_one) c.self.view_is)
+    subst (λ (s : Segment). line_at t.gauge (anchor_of s.anchor) s.rate.units o.tick ≤ℤ scaled t.gauge (o.time +ℤ t.gauge.tolerance)) (ap (λ (v : FittingView). v.open_one) c.self.view_is)
     (between c.is_late.ensures c.if-is_late.false)
