@@ -132,6 +132,7 @@ class Answer:
     status: int
     out: str
     note: str  # the first line of standard error
+    told: str  # what stands after it
     words: list
     options: dict
 
@@ -169,8 +170,8 @@ class Program:
         with tempfile.TemporaryDirectory() as folder:
             words = [command] + write_files(Path(folder), options)
             ran = subprocess.run([self.path] + words, cwd=folder, stdin=subprocess.DEVNULL, capture_output=True)
-        note = ran.stderr.decode("latin-1").partition("\n")[0]
-        return Answer(ran.returncode, ran.stdout.decode("latin-1"), note, words, options)
+        note, _, told = ran.stderr.decode("latin-1").partition("\n")
+        return Answer(ran.returncode, ran.stdout.decode("latin-1"), note, told, words, options)
 
     def calls(self, asked):
         """Many calls of (command, options) at once, answered in order."""

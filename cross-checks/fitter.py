@@ -15,7 +15,11 @@ from publications import publications
 
 
 class Refused(Exception):
-    pass
+    """Why there is no publication: the end of the line that says so, and a sentence that must stand after it."""
+
+    def __init__(self, line, sentence=""):
+        super().__init__(line)
+        self.sentence = sentence
 
 
 @dataclass
@@ -117,12 +121,30 @@ class Fit:
         elif len(self.dropped) < self.settings.reject:
             self.dropped.add(seen.number)
         else:
-            raise Refused(f"NoRate;{seen.number}")
+            raise Refused(f"NoRate;{seen.number}", self.missed(now, seen))
+
+    def pair(self, now, seen):
+        """The first observation that asks for the greatest least rate, and the first that leaves the least greatest one."""
+        asked = [(one, *self.limits(now.ticks, now.time, one)) for one in now.covered + [seen]]
+        return max(asked, key=lambda one: one[1])[0], min(asked, key=lambda one: one[2])[0]
 
     def blocked(self, now, seen):
-        """The first observation that asks for the greatest least rate, and the first that leaves the least greatest one."""
-        asked = [(one.number, *self.limits(now.ticks, now.time, one)) for one in now.covered + [seen]]
-        return f"blocked:{max(asked, key=lambda one: one[1])[0]}:{min(asked, key=lambda one: one[2])[0]}"
+        low, high = self.pair(now, seen)
+        return f"blocked:{low.number}:{high.number}"
+
+    def missed(self, now, seen):
+        """Why the line could not go on: the records that bar it, and how far from it they lie."""
+        if now is self.segments[0]:
+            return f"the record lies {self.away(now, seen)} that line."
+        low, high = self.pair(now, seen)
+        bars = f"too small at record {low.number} ({self.away(now, low)} the line) or too large at record"
+        return f"Each allowed rate is {bars} {high.number} ({self.away(now, high)} it)."
+
+    def away(self, now, seen):
+        """How far from a line an observation lies, in microseconds; the line is floored to the picosecond."""
+        there = floor(self.line((now.ticks, now.time, now.rate(self.settings.step)), seen.tick) * PICO)
+        whole, part = divmod(abs(seen.time - there), 10**6)
+        return f"{whole}.{part:06} us {'before' if seen.time < there else 'after'}"
 
     def triples(self):
         return [(one.ticks, one.time, one.rate(self.settings.step)) for one in self.segments[1:]]
@@ -154,12 +176,23 @@ def published(publication):
     return kernel_text(publication.clock, publication.old) + "\\begindata\n" + data + "\\begintext\n" + rows, fit
 
 
+def sentence(publication):
+    """What must stand after the line that refuses a publication."""
+    try:
+        Fit(publication).run()
+    except Refused as refused:
+        return refused.sentence
+    return ""
+
+
 def check(program):
     cases, fits, refusals = publications(1, 1000), [], []
     for case, answer in zip(cases, program.calls(case.asked() for case in cases)):
         wanted, fit = published(case)
         if (answer.out if fit else answer.note) != wanted:
             answer.differs("wanted:\n" + wanted + "said:\n" + answer.out + answer.note)
+        if not fit and sentence(case) not in answer.told:
+            answer.differs("wanted:\n" + sentence(case) + "\nsaid:\n" + answer.told)
         (fits if fit else refusals).append(fit or wanted)
     return f"{len(fits)} publications with {sum(len(fit.segments) - 1 for fit in fits)} new triples, {len(refusals)} refusals"
 

@@ -1,5 +1,5 @@
 -- What follows the line of a refusal.
-use Rattle.std.specs.Prelude.{ℕ, Bool, true, false, ◌&&◌, List, [], ◌∷◌, ◌++◌, codes, decimal, Option, Some, None, is_none, if◌then◌else◌}
+use Rattle.std.specs.Prelude.{ℕ, ℤ, Bool, true, false, ◌&&◌, List, [], ◌∷◌, ◌++◌, codes, decimal, Option, Some, None, is_none, if◌then◌else◌}
 use Rattle.std.specs.List.{flat_map}
 use Rattle.clap.specs.Words.{Row}
 use Rattle.sk_words.specs.Words.{option_text}
@@ -14,6 +14,7 @@ use Rattle.sk_leap.specs.declared.utc.UtcFault.{UtcFault}
 use Rattle.sk_leap.specs.declared.utc.UtcFault.TheVariants.{BeforeTable, NotInDay, PastRange}
 use Rattle.sk_obs.specs.declared.fault.ObsFault.{ObsFault}
 use Rattle.sk_obs.specs.declared.fault.ObsFault.TheVariants as obs
+use Rattle.sk_fit.specs.declared.fault.Miss.{Miss}
 use Rattle.sk_fit.specs.declared.fault.Barrier.{Barrier}
 use Rattle.sk_fit.specs.declared.fault.Barrier.TheVariants.{OldLine, Pair}
 use Rattle.sk_fit.specs.declared.fault.FitFault.{FitFault}
@@ -29,6 +30,7 @@ use Rattle.sk_advice.specs.declared.subject.Place.TheVariants as place
 use Rattle.sk_advice.specs.declared.subject.Subject.{Subject}
 use Rattle.sk_advice.specs.declared.subject.Subject.TheVariants as subject
 use Rattle.sk_advice.specs.Sentences.{sentences}
+use Rattle.sk_advice.specs.Distances.{away, distance_text}
 use Rattle.sk_advice.specs.Causes.{cause_of}
 use Rattle.sk_advice.specs.Cures.{cure_of}
 use Rattle.sk_advice.specs.Subjects.{counted, subject_of, subject_text}
@@ -107,14 +109,19 @@ abbrev pub further_of_observation : ObsStop → List ℕ
 further_of_observation (obs_stop.Record fault) = further_of_record fault
 further_of_observation _ = []
 
--- the records of a pair
-abbrev pub pair_line : ℕ → ℕ → List ℕ
-pair_line low high = counted (codes "Each allowed rate is too small at record ") low ++ (counted (codes " or too large at record ") high
-    ++ codes "; station residuals tells how far each is off.")
+-- the records of a pair, and how far each lies from the line
+abbrev pub pair_line : Miss → Miss → List ℕ
+pair_line low high =
+    counted (codes "Each allowed rate is too small at record ") low.number ++ (away low.distance.units (codes "the line")
+    ++ (counted (codes " or too large at record ") high.number ++ (away high.distance.units (codes "it") ++ codes ".")))
+
+-- the record of the refusal, by the line of the kernel's last triple
+abbrev pub old_line : ℤ → List ℕ
+old_line units = codes "The line of the kernel's last triple misses it too: the record lies " ++ (distance_text units ++ codes "that line.")
 
 -- why the line before a record could not go on to it
 abbrev pub barrier_line : Barrier → List ℕ
-barrier_line OldLine = codes "The line of the kernel's last triple misses it too; station residuals tells by how much."
+barrier_line (OldLine distance) = old_line distance.units
 barrier_line (Pair low high) = pair_line low high
 
 abbrev pub further_of_fit : FitFault → List ℕ

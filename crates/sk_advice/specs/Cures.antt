@@ -161,7 +161,7 @@ cure_of_triples (triples.TickRange n) =
 cure_of_triples (triples.TimeForm n) =
     codes "Years are 1600 to 2399, a month by number has two digits, and nothing follows, not even a Z."
 cure_of_triples (triples.TimeRange n) =
-    codes "The second value is in seconds past J2000, or a calendar time behind @."
+    codes "The second value is in seconds past J2000, or a calendar time after @."
 cure_of_triples (triples.RateRange n) = codes "The third number is in seconds a most significant count."
 cure_of_triples (triples.OutOfOrder n) = codes "Put the triples in order; of two with the same tick leave one out."
 cure_of_triples triples.TooMany = codes "Use a kernel with fewer triples, or split it by time."
@@ -187,7 +187,7 @@ cure_of_count count.NoSuchPartition =
 cure_of_count count.OutsidePartition =
     codes "Is it an encoded tick? Write tick:NUMBER: a bare number counts the first field, mostly seconds."
 cure_of_count count.WrongShape =
-    codes "Compare its P-field with SCLK01_MODULI_n: a count of 256, or of 256 to the fraction octets."
+    codes "SCLK01_OFFSETS_n must be 0; SCLK01_MODULI_n has one number, or with fraction octets a second: 256 to their count."
 
 -- of a CUC code
 abbrev pub cure_of_cuc : CucFault → List ℕ
@@ -262,7 +262,7 @@ abbrev pub cure_of_fit : FitFault → List ℕ
 cure_of_fit fit.BadHold =
     codes "Leave --hold out, or hold at or after the last triple. docs/DAILY.md tells how to redo earlier ones."
 cure_of_fit (fit.OldFalls fall) = codes "Is the kernel wrong there? To accept the fall, give a greater --slip-ns."
-cure_of_fit fit.BandEmpty = codes "Give more --rate-decimals or a wider --band-ppm."
+cure_of_fit fit.BandEmpty = codes "Give more decimals, or a wider band."
 cure_of_fit (fit.NoRate n barrier) =
     codes "Is its time or its delay wrong, or another record's? If all are right, widen --tol-ns or --band-ppm."
 cure_of_fit (fit.TimeFalls n) =

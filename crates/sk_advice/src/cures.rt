@@ -179,7 +179,7 @@ fn triples_cure(fault: TriplesFault) -> &'static str
             "Years are 1600 to 2399, a month by number has two digits, and nothing follows, not even a Z."
         }
         TriplesFault::TimeRange(_) => {
-            "The second value is in seconds past J2000, or a calendar time behind @."
+            "The second value is in seconds past J2000, or a calendar time after @."
         }
         TriplesFault::RateRange(_) => "The third number is in seconds a most significant count.",
         TriplesFault::OutOfOrder(_) => {
@@ -220,7 +220,7 @@ fn count_cure(fault: ClockFault) -> &'static str
             "Is it an encoded tick? Write tick:NUMBER: a bare number counts the first field, mostly seconds."
         }
         ClockFault::WrongShape => {
-            "Compare its P-field with SCLK01_MODULI_n: a count of 256, or of 256 to the fraction octets."
+            "SCLK01_OFFSETS_n must be 0; SCLK01_MODULI_n has one number, or with fraction octets a second: 256 to their count."
         }
     }
 }
@@ -353,7 +353,7 @@ fn fit_cure(fault: FitFault) -> &'static str
         FitFault::OldFalls(_) => {
             "Is the kernel wrong there? To accept the fall, give a greater --slip-ns."
         }
-        FitFault::BandEmpty => "Give more --rate-decimals or a wider --band-ppm.",
+        FitFault::BandEmpty => "Give more decimals, or a wider band.",
         FitFault::NoRate(..) => {
             "Is its time or its delay wrong, or another record's? If all are right, widen --tol-ns or --band-ppm."
         }

@@ -3,12 +3,14 @@
 ghost use Rattle.std.specs.Prelude.{◌≡◌, ◌++◌, IfOk, OnOk, string_bytes};
 ghost use Rattle.sk_words.specs.Request.{numbers_of};
 ghost use Rattle.sk_words.specs.Help.{given_as};
-ghost use Rattle.sk_advice.specs.Advice.{barrier_line as barrier_line_of, commands_text, further_of, further_of_fit, further_of_observation, further_of_record, further_of_words, hint_at as hint_at_place, hint_of as hint_of_subject, numbers_line as numbers_line_of, option_line as option_line_of, pair_line as pair_line_of, range_line as range_line_of, record_hint as record_hint_of};
+ghost use Rattle.sk_advice.specs.Advice.{barrier_line as barrier_line_of, commands_text, further_of, further_of_fit, further_of_observation, further_of_record, further_of_words, hint_at as hint_at_place, hint_of as hint_of_subject, numbers_line as numbers_line_of, old_line as old_line_of, option_line as option_line_of, pair_line as pair_line_of, range_line as range_line_of, record_hint as record_hint_of};
 
+use crate::distances::{push_away, push_distance};
 use crate::naming::{push_counted, push_text};
 use crate::subject::{Place, Subject};
 use sk_checks::NoMemory;
-use sk_fit::{Barrier, FitFault};
+use sk_decimal::Fixed;
+use sk_fit::{Barrier, FitFault, Miss};
 use sk_obs::ObsFault;
 use sk_status::{ObsStop, Status};
 use sk_words::{Command, OptionName, WordsFault};
@@ -112,18 +114,29 @@ fn fixed_line(alloc: Global, text: &str) -> Result<Vec<u8>, NoMemory>
     Ok(line)
 }
 
-fn pair_line(alloc: Global, low: u32, high: u32) -> Result<Vec<u8>, NoMemory>
+fn pair_line(alloc: Global, low: Miss, high: Miss) -> Result<Vec<u8>, NoMemory>
     ensures { IfOk result (λ line. line.items ≡ pair_line_of low high) }
 {
     let mut line = Vec::new(alloc);
-    push_counted(
-        alloc,
+    let too_small = "Each allowed rate is too small at record ";
+    push_counted(alloc, &mut line, too_small, low.number)?;
+    push_away(&mut line, low.distance, "the line")?;
+    push_counted(alloc, &mut line, " or too large at record ", high.number)?;
+    push_away(&mut line, high.distance, "it")?;
+    push_text(&mut line, ".")?;
+    Ok(line)
+}
+
+fn old_line(alloc: Global, distance: Fixed<12>) -> Result<Vec<u8>, NoMemory>
+    ensures { IfOk result (λ line. line.items ≡ old_line_of distance.units) }
+{
+    let mut line = Vec::new(alloc);
+    push_text(
         &mut line,
-        "Each allowed rate is too small at record ",
-        low,
+        "The line of the kernel's last triple misses it too: the record lies ",
     )?;
-    push_counted(alloc, &mut line, " or too large at record ", high)?;
-    push_text(&mut line, "; station residuals tells how far each is off.")?;
+    push_distance(&mut line, distance)?;
+    push_text(&mut line, "that line.")?;
     Ok(line)
 }
 
@@ -131,10 +144,7 @@ fn barrier_line(alloc: Global, barrier: Barrier) -> Result<Vec<u8>, NoMemory>
     ensures { IfOk result (λ line. line.items ≡ barrier_line_of barrier) }
 {
     match barrier {
-        Barrier::OldLine => fixed_line(
-            alloc,
-            "The line of the kernel's last triple misses it too; station residuals tells by how much.",
-        ),
+        Barrier::OldLine(distance) => old_line(alloc, distance),
         Barrier::Pair { low, high } => pair_line(alloc, low, high),
     }
 }

@@ -4,6 +4,7 @@
 mod advice;
 mod causes;
 mod cures;
+mod distances;
 mod further;
 mod headers;
 mod naming;

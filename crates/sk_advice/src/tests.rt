@@ -1,7 +1,8 @@
 use super::*;
 use sk_audit::AuditFault;
+use sk_decimal::Fixed;
 use sk_edge::MemorySink;
-use sk_fit::{Barrier, FitFault};
+use sk_fit::{Barrier, FitFault, Miss};
 use sk_obs::{ClockWord, HeaderCause, ObsFault};
 use sk_status::{DocumentKind, FileKind, ObsStop, Status};
 use sk_words::{OptionName, WordsFault};
@@ -23,6 +24,20 @@ fn told(
     let mut notes = MemorySink::new(vec![in alloc; 8]?, failing, vec![in alloc; 0; 500]?);
     write_told(alloc, &mut notes, &words, status);
     Ok(notes)
+}
+
+/// A pair of records at these distances from the line.
+fn pair(low: i128, high: i128) -> Barrier {
+    Barrier::Pair {
+        low: Miss {
+            number: 9,
+            distance: Fixed { units: low },
+        },
+        high: Miss {
+            number: 7,
+            distance: Fixed { units: high },
+        },
+    }
 }
 
 #[test]
@@ -75,12 +90,12 @@ fn each_part_is_told_in_its_order(rt: HostRuntime) -> Result<(), Fail> {
             "refused;5;Header\n   (--obs):\n  the first field holds a zero byte, as text in UTF-16 does.\n  Save the file as UTF-8.\n",
         ),
         (
-            Status::NotPublished(FitFault::NoRate(9, Barrier::Pair { low: 9, high: 7 })),
-            "refused;6;NoRate;9\n   (--obs), record 9:\n  no allowed rate meets this record from where the line before it was left.\n  Is its time or its delay wrong, or another record's? If all are right, widen --tol-ns or --band-ppm.\n  Each allowed rate is too small at record 9 or too large at record 7; station residuals tells how far each is off.\n  Record 1 is the header: grep -n . FILE | sed -n 9p prints the record and its line number.\n",
+            Status::NotPublished(FitFault::NoRate(9, pair(2_500_000_001, -400_000))),
+            "refused;6;NoRate;9\n   (--obs), record 9:\n  no allowed rate meets this record from where the line before it was left.\n  Is its time or its delay wrong, or another record's? If all are right, widen --tol-ns or --band-ppm.\n  Each allowed rate is too small at record 9 (2500.000001 us after the line) or too large at record 7 (0.400000 us before it).\n  Record 1 is the header: grep -n . FILE | sed -n 9p prints the record and its line number.\n",
         ),
         (
-            Status::NotPublished(FitFault::NoRate(9, Barrier::OldLine)),
-            "refused;6;NoRate;9\n   (--obs), record 9:\n  no allowed rate meets this record from where the line before it was left.\n  Is its time or its delay wrong, or another record's? If all are right, widen --tol-ns or --band-ppm.\n  The line of the kernel's last triple misses it too; station residuals tells by how much.\n  Record 1 is the header: grep -n . FILE | sed -n 9p prints the record and its line number.\n",
+            Status::NotPublished(FitFault::NoRate(9, Barrier::OldLine(Fixed { units: i128::MIN }))),
+            "refused;6;NoRate;9\n   (--obs), record 9:\n  no allowed rate meets this record from where the line before it was left.\n  Is its time or its delay wrong, or another record's? If all are right, widen --tol-ns or --band-ppm.\n  The line of the kernel's last triple misses it too: the record lies 170141183460469231731687303715884.105728 us before that line.\n  Record 1 is the header: grep -n . FILE | sed -n 9p prints the record and its line number.\n",
         ),
     ];
     for (status, text) in table {

@@ -1,16 +1,18 @@
--- The pair that blocks is among the observations, and what an end tells by record numbers is one.
+-- The pair that blocks is among the observations, and what an end tells is one.
 use Rattle.std.proofs.Common.{◌≡◌, ℕ, ◌<◌, ◌++◌, Bool, true, false, cond, List, [], ◌∷◌, length, refl, sym, ap, subst, ◌∙◌}
 use Rattle.std.proofs.lemmas.Option.{same_Some, slice_get_within}
-use Rattle.std.specs.Prelude.{filter}
+use Rattle.std.specs.Prelude.{ℤ, filter}
 use Rattle.std.specs.List.{AllByRecursion}
+use Rattle.sk_decimal.specs.declared.fixed.Fixed.{Fixed}
 use Rattle.sk_publishing.specs.Row.{RowView}
-use Rattle.sk_publishing.specs.Terms.{Sight, Terms, sights}
-use Rattle.sk_publishing.specs.Chain.{EndView, LastEnd, PartitionEnd, FixedEnd, BlockedEnd}
+use Rattle.sk_publishing.specs.Terms.{Sight, Gauge, Terms, sights}
+use Rattle.sk_publishing.specs.Chain.{SegmentView, EndView, LastEnd, PartitionEnd, FixedEnd, BlockedEnd}
 use Rattle.sk_line.proofs.Lists.{all_append, all_back}
 use Rattle.sk_fit.specs.declared.open_segment.Running.{Running}
 use Rattle.sk_fit.specs.declared.fault.Barrier.{Barrier}
 use Rattle.sk_fit.specs.declared.fault.Barrier.TheVariants.{OldLine, Pair}
-use Rattle.sk_fit.specs.Barriers.{IsNumberAt, IsBarrier}
+use Rattle.sk_fit.specs.declared.fault.Miss.{Miss}
+use Rattle.sk_fit.specs.Barriers.{IsMiss, IsEndTold, IsBarrier, distance_of}
 use Rattle.sk_fit.specs.State.{FittingView, IsAt, open_of}
 use Rattle.sk_fit.specs.Pairs.{IsRunning}
 use Rattle.sk_fit.proofs.Observed.{all_sights}
@@ -50,21 +52,31 @@ pair_within t rows n f o r at run =
 
 -- ---- one barrier
 
-number_same : (rows : List RowView) (place n m : ℕ) → IsNumberAt rows place n → IsNumberAt rows place m → n ≡ m
-number_same rows place n m p q =
-    let seen : p.0 ≡ q.0 = same_Some p.0 q.0 (sym p.1 ∙ q.1) in
-    p.2 ∙ ap (λ (row : RowView). row.number) seen ∙ sym q.2
+abbrev units_as : ℤ → Fixed 12
+units_as units = record { units = units }
 
-barrier_same : (rows : List RowView) (e : EndView) (b b' : Barrier) → IsBarrier rows e b → IsBarrier rows e b' → b ≡ b'
-barrier_same rows FixedEnd OldLine OldLine p q = refl
-barrier_same rows FixedEnd OldLine (Pair low high) p q = absurd q
-barrier_same rows FixedEnd (Pair low high) b' p q = absurd p
-barrier_same rows (BlockedEnd x y) OldLine b' p q = absurd p
-barrier_same rows (BlockedEnd x y) (Pair low high) OldLine p q = absurd q
-barrier_same rows (BlockedEnd x y) (Pair low high) (Pair low' high') p q =
-    ap (λ (n : ℕ). Pair n high) (number_same rows x low low' p.0 q.0) ∙ ap (λ (n : ℕ). Pair low' n) (number_same rows y high high' p.1 q.1)
-barrier_same rows LastEnd b b' p q = absurd p
-barrier_same rows PartitionEnd b b' p q = absurd p
+abbrev missed_by : ℕ → ℤ → Miss
+missed_by number units = record { number = number; distance = units_as units }
 
-pub one_barrier : (rows : List RowView) (e e' : EndView) (b b' : Barrier) → e ≡ e' → IsBarrier rows e b → IsBarrier rows e' b' → b ≡ b'
-one_barrier rows e e' b b' same p q = barrier_same rows e' b b' (subst (λ (x : EndView). IsBarrier rows x b) same p) q
+module _ (g : Gauge) (rows : List RowView) where
+  miss_same : (s : SegmentView) (place : ℕ) (a b : Miss) → IsMiss g s rows place a → IsMiss g s rows place b → a ≡ b
+  miss_same s place a b p q =
+      let seen : p.0 ≡ q.0 = same_Some p.0 q.0 (sym p.1 ∙ q.1) in
+      let number : a.number ≡ b.number = p.2 ∙ ap (λ (row : RowView). row.number) seen ∙ sym q.2 in
+      let units : a.distance.units ≡ b.distance.units = p.3 ∙ ap (λ (row : RowView). distance_of g s row.tick row.time) seen ∙ sym q.3 in
+      ap (λ (n : ℕ). missed_by n a.distance.units) number ∙ ap (missed_by b.number) units
+
+  told_same : (o : Sight) (s : SegmentView) (e : EndView) (b b' : Barrier) → IsEndTold g rows o s e b → IsEndTold g rows o s e b' → b ≡ b'
+  told_same o s FixedEnd (OldLine d) (OldLine d') p q = ap (λ (units : ℤ). OldLine (units_as units)) (p ∙ sym q)
+  told_same o s FixedEnd (OldLine d) (Pair low high) p q = absurd q
+  told_same o s FixedEnd (Pair low high) b' p q = absurd p
+  told_same o s (BlockedEnd x y) (OldLine d) b' p q = absurd p
+  told_same o s (BlockedEnd x y) (Pair low high) (OldLine d) p q = absurd q
+  told_same o s (BlockedEnd x y) (Pair low high) (Pair low' high') p q =
+      ap (λ (m : Miss). Pair m high) (miss_same s x low low' p.0 q.0) ∙ ap (λ (m : Miss). Pair low' m) (miss_same s y high high' p.1 q.1)
+  told_same o s LastEnd b b' p q = absurd p
+  told_same o s PartitionEnd b b' p q = absurd p
+
+  pub one_barrier : (o o' : Sight) (s s' : SegmentView) (b b' : Barrier) → o ≡ o' → s ≡ s' → IsBarrier g rows o s b → IsBarrier g rows o' s' b' → b ≡ b'
+  one_barrier o o' s s' b b' here same p q =
+      told_same o' s' s'.ended b b' (subst (λ (x : SegmentView). IsBarrier g rows o' x b) same (subst (λ (y : Sight). IsBarrier g rows y s b) here p)) q

@@ -77,7 +77,7 @@ RefusesAt x rows old (OldFalls fall) = (¬ IsBadHold x old) × IsOldFall x (x.te
 RefusesAt x rows old BandEmpty = (¬ IsBadHold x old)
     × ((i : ℕ) → ¬ FallsOver (x.terms old).gauge.per_count x.triples x.slip i) × IsBandEmpty x old
 RefusesAt x rows old (NoRate number barrier) = Begins x old × ((o : Sight) × (stop : StopsAtNoRate (x.terms old) x.all o) × IsNumberOf rows o number
-    × IsBarrier rows stop.no_rate.last.ended barrier)
+    × IsBarrier (x.terms old).gauge rows o stop.no_rate.last barrier)
 RefusesAt x rows old (TimeFalls number) = Begins x old × ((o : Sight) × StopsAtTimeFall (x.terms old) x.all o × IsNumberOf rows o number)
 RefusesAt x rows old TooMany = Begins x old × ((dropped : List Sight) × (chain : List SegmentView)
     × IsPublication (x.terms old) x.all dropped chain × AreTooMany x chain)
@@ -131,9 +131,10 @@ module _ (x : Input) (rows : List RowView) (old : TripleView) where
   rate_alone n b (OldFalls fall) s r = absurd (s.0.falls fall.join r.1.first.falls)
   rate_alone n b BandEmpty s r = absurd (s.0.band r.2)
   rate_alone n b (NoRate m b') s r =
-      let number : n ≡ m = one_number s.1.0 r.1.0 n m (one_stop.one (x.terms old) x.all s.1.0 r.1.0 (inl s.1.1) (inl r.1.1)) s.1.2 r.1.2 in
-      let barrier : b ≡ b' = one_barrier rows s.1.1.no_rate.last.ended r.1.1.no_rate.last.ended b b'
-      (ap (λ (g : SegmentView). g.ended) (stops_last (x.terms old) x.all s.1.0 r.1.0 s.1.1 r.1.1)) s.1.3 r.1.3 in
+      let stop : s.1.0 ≡ r.1.0 = one_stop.one (x.terms old) x.all s.1.0 r.1.0 (inl s.1.1) (inl r.1.1) in
+      let number : n ≡ m = one_number s.1.0 r.1.0 n m stop s.1.2 r.1.2 in
+      let barrier : b ≡ b' = one_barrier (x.terms old).gauge rows s.1.0 r.1.0 s.1.1.no_rate.last r.1.1.no_rate.last b b'
+      stop (stops_last (x.terms old) x.all s.1.0 r.1.0 s.1.1 r.1.1) s.1.3 r.1.3 in
       ap (λ (k : ℕ). NoRate k b) number ∙ ap (NoRate m) barrier
   rate_alone n b (TimeFalls m) s r = absurd (one_stop.apart (x.terms old) x.all s.1.0 r.1.0 s.1.1 r.1.1)
   rate_alone n b TooMany s r = absurd (one_stop.none (x.terms old) x.all s.1.0 r.1.0 r.1.1 (inl s.1.1) r.1.2)

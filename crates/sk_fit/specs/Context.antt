@@ -17,7 +17,7 @@ use Rattle.sk_fit.specs.declared.ending.Beginning.{Beginning}
 use Rattle.sk_fit.specs.declared.open_segment.Running.{Running}
 use Rattle.sk_fit.specs.Given.{AreSettings, IsUsableBand, IsRate, terms_of, anchor_of, band_view, sight_at, end_view}
 use Rattle.sk_fit.specs.State.{IsSmallClock, FittingView, IsFitting, IsBuilt, IsAt, Rises, Moves, StopsBy, open_of}
-use Rattle.sk_fit.specs.Pairs.{IsRunning, CanEnd}
+use Rattle.sk_fit.specs.Pairs.{IsRunning, CanEnd, ended_with}
 
 -- all that a fit reads and never changes
 pub record FitView : Type 0 where
@@ -73,10 +73,10 @@ RunsOver fit n row f r = IsRunning (terms fit) (all_of fit) f (sight_at n row) r
 abbrev pub CanEndAs : FitView → ℕ → RowView → FittingView → End → Type 0
 CanEndAs fit n row f ended = CanEnd (terms fit) (all_of fit) n f (sight_at n row) (end_view ended)
 
--- no allowed rate meets the next observation, and the open segment ends so; or time falls there
+-- no allowed rate meets the next observation, and the open segment, which ends so, is the last one; or time falls there
 abbrev pub LacksRate : FitView → ℕ → RowView → End → FittingView → Type 0
 LacksRate fit n row ended f = (kept dropped : List Sight) → IsFitting (terms fit) (all_of fit) n f kept dropped
-    → (none : HasNoRate (terms fit) kept (sight_at n row)) × (none.last.ended ≡ end_view ended)
+    → (none : HasNoRate (terms fit) kept (sight_at n row)) × (none.last ≡ ended_with (open_of (all_of fit) f) (end_view ended))
 
 abbrev pub LetsTimeFall : FitView → ℕ → RowView → FittingView → Type 0
 LetsTimeFall fit n row f = (kept dropped : List Sight) → IsFitting (terms fit) (all_of fit) n f kept dropped → HasTimeFall (terms fit) kept (sight_at n row)

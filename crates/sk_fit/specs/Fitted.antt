@@ -35,7 +35,7 @@ pub record IsChainOf (fit : FitView) (first_new : ℕ) (chain : Chain) : Type 0 
 -- the observation that stops a publication, for this reason; or memory runs out
 abbrev pub StopsAt : Terms → List RowView → FitFault → Type 0
 StopsAt t rows (NoRate number barrier) = (o : Sight) × (stop : StopsAtNoRate t (sights rows) o) × IsNumberOf rows o number
-    × IsBarrier rows stop.no_rate.last.ended barrier
+    × IsBarrier t.gauge rows o stop.no_rate.last barrier
 StopsAt t rows (TimeFalls number) = (o : Sight) × StopsAtTimeFall t (sights rows) o × IsNumberOf rows o number
 StopsAt t rows NoMemory = Unit {0}
 StopsAt t rows _ = ⊥

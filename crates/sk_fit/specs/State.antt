@@ -173,7 +173,7 @@ Moves t all n o f f' = (kept dropped : List Sight) → IsFitting t all n f kept 
 abbrev pub StopsBy : Terms → List RowView → ℕ → Sight → FittingView → ℕ → FitFault → Type 0
 StopsBy t rows n o f number (NoRate named barrier) = (named ≡ number)
     × ((kept dropped : List Sight) → IsFitting t (sights rows) n f kept dropped
-    → (none : HasNoRate t kept o) × IsBarrier rows none.last.ended barrier × (length dropped ≡ t.reject))
+    → (none : HasNoRate t kept o) × IsBarrier t.gauge rows o none.last barrier × (length dropped ≡ t.reject))
 StopsBy t rows n o f number (TimeFalls named) = (named ≡ number)
     × ((kept dropped : List Sight) → IsFitting t (sights rows) n f kept dropped → HasTimeFall t kept o)
 StopsBy t rows n o f number NoMemory = Unit {0}

@@ -1,6 +1,6 @@
 //! Where the line of a segment is, and the anchor that it leaves.
 
-ghost use Rattle.std.specs.Prelude.{◌≡◌, ◌-◌, ◌+◌, ◌*◌, ◌^◌, ◌<◌, ◌≤◌, ℤ, pos, neg_ℤ, ◌+ℤ◌, ◌*ℤ◌, ◌≤ℤ◌, ◌<ℤ◌};
+ghost use Rattle.std.specs.Prelude.{◌≡◌, ◌-◌, ◌+◌, ◌*◌, ◌^◌, ◌<◌, ◌≤◌, ℤ, pos, neg_ℤ, ◌+ℤ◌, ◌-ℤ◌, ◌*ℤ◌, ◌≤ℤ◌, ◌<ℤ◌};
 ghost use Rattle.std.specs.Int.{int_max};
 ghost use Rattle.sk_decimal.specs.Quotient.{floor_quotient, ceiling_quotient};
 ghost use Rattle.sk_line.specs.Line.{line_over};
@@ -13,17 +13,16 @@ use crate::settings::Line;
 use sk_decimal::Fixed;
 use sk_obs::Observation;
 
-/// The line at a tick, over ticks per count.
+/// The line at a tick, over ticks per count; before its anchor it is as at it.
 pub fn line_at(line: Line, rate: i128, tick: u64, ticks_per: u64) -> i128
     requires line { HoldsLine ticks_per line }
     requires rate { IsRate rate }
-    requires ahead { line.ticks ≤ tick }
     requires short { tick < 2 ^ 53 }
     ensures value { result ≡ line_over ticks_per (anchor_of line) rate tick }
     ensures from { neg_ℤ (pos (7 * 10 ^ 37)) ≤ℤ result }
     ensures to { result ≤ℤ pos (7 * 10 ^ 37) }
 {
-    let gained = gain(rate, tick - line.ticks);
+    let gained = gain(rate, tick.saturating_sub(line.ticks));
     let start = begun(line.time.units, ticks_per);
     added(start, gained)
 }
@@ -64,6 +63,19 @@ fn units_up(line: i128, ticks_per: u64) -> i128
 {
     let step = unit_ticks(ticks_per);
     ceiling_by(line, step)
+}
+
+/// A time less that of the line, which is rounded down to the time unit.
+pub fn time_after(time: i128, line: i128, ticks_per: u64) -> i128
+    requires time_from { neg_ℤ (pos (91 * 10 ^ 20)) ≤ℤ time }
+    requires time_to { time ≤ℤ pos (91 * 10 ^ 20) }
+    requires from { neg_ℤ (pos (7 * 10 ^ 37)) ≤ℤ line }
+    requires to { line ≤ℤ pos (7 * 10 ^ 37) }
+    requires few { ticks_per ≤ 2 ^ 32 }
+    requires some { 0 < ticks_per }
+    ensures { result ≡ time -ℤ floor_quotient line (10 ^ 6 * ticks_per) }
+{
+    time - floor_by(line, unit_ticks(ticks_per))
 }
 
 /// Whole units as 10^-18 s.

@@ -7,14 +7,14 @@ ghost use Rattle.sk_publishing.specs.Rates.{IsLeastRate, IsGreatestRate};
 ghost use Rattle.sk_publishing.specs.Chain.{IsAllowedStep, rounded_up as rounded_up_of};
 ghost use Rattle.sk_publishing.specs.Kept.{is_new};
 ghost use Rattle.sk_publishing.specs.Built.{middle_rate as middle_of};
-ghost use Rattle.sk_fit.specs.Given.{CanMeet, IsRate, anchor_of, sight_at, segment_view, end_view};
-ghost use Rattle.sk_fit.specs.Barriers.{IsBarrier, IsEndWithin};
+ghost use Rattle.sk_fit.specs.Given.{CanMeet, IsRate, anchor_of, sight_at, segment_view};
+ghost use Rattle.sk_fit.specs.Barriers.{IsBarrier, IsEndWithin, IsMiss, distance_of};
 ghost use Rattle.sk_fit.specs.State.{HoldsLine};
 ghost use Rattle.sk_fit.specs.Context.{IsFit, IsNext, terms};
 
-use crate::anchors::{line_at, middle_rate, rounded_up};
+use crate::anchors::{line_at, middle_rate, rounded_up, time_after};
 use crate::chain::{End, Segment};
-use crate::fault::Barrier;
+use crate::fault::{Barrier, Miss};
 use crate::gains::latest;
 use crate::partitions::are_together;
 use crate::products::is_less;
@@ -82,22 +82,54 @@ impl<'a> Fit<'a> {
     pub fn at(&self, place: usize) -> &'a Observation
         requires { place < length self.now.rows }
         ensures here { slice_get self.now.rows place ≡ Some result.now }
+        ensures short { result.now.tick ≤ total self.now.clock }
         ensures next { is_new (terms self.now) (sight_at place result.now) ≡ true → IsNext self.now place result.now }
     {
         let rows = self.observations;
         &rows[place]
     }
 
-    /// Why the line before an observation could not go on to it, by record numbers.
-    pub fn barrier(&self, ended: End) -> Barrier
-        requires { IsEndWithin (length self.now.rows) ended }
-        ensures { IsBarrier self.now.rows (end_view ended) result }
+    /// The time of an observation less that of the line of a segment.
+    fn distance(&self, segment: Segment, obs: &Observation) -> Fixed<12>
+        requires line { HoldsLine (ticks_per_of self.now.clock) segment.anchor }
+        requires rate { IsRate segment.rate.units }
+        requires short { obs.now.tick ≤ total self.now.clock }
+        ensures { result.units ≡ distance_of (terms self.now).gauge (segment_view [] [] segment) obs.now.tick obs.now.time }
     {
-        match ended {
-            End::Fixed => Barrier::OldLine,
+        let ticks_per = self.clock.ticks_per();
+        let line = line_at(segment.anchor, segment.rate.units, obs.tick, ticks_per);
+        Fixed {
+            units: time_after(obs.time.units, line, ticks_per),
+        }
+    }
+
+    /// The record of a place, and its distance from the line of a segment.
+    fn miss(&self, segment: Segment, place: usize) -> Miss
+        requires within { place < length self.now.rows }
+        requires line { HoldsLine (ticks_per_of self.now.clock) segment.anchor }
+        requires rate { IsRate segment.rate.units }
+        ensures { IsMiss (terms self.now).gauge (segment_view [] [] segment) self.now.rows place result }
+    {
+        let obs = self.at(place);
+        Miss {
+            number: obs.number,
+            distance: self.distance(segment, obs),
+        }
+    }
+
+    /// Why a segment that ends at an observation could not go on to it.
+    pub fn barrier(&self, segment: Segment, obs: &Observation) -> Barrier
+        requires within { IsEndWithin (length self.now.rows) segment.ended }
+        requires line { HoldsLine (ticks_per_of self.now.clock) segment.anchor }
+        requires rate { IsRate segment.rate.units }
+        requires short { obs.now.tick ≤ total self.now.clock }
+        ensures { IsBarrier (terms self.now).gauge self.now.rows (sight_at 0 obs.now) (segment_view [] [] segment) result }
+    {
+        match segment.ended {
+            End::Fixed => Barrier::OldLine(self.distance(segment, obs)),
             End::Blocked { low, high } => Barrier::Pair {
-                low: self.at(low).number,
-                high: self.at(high).number,
+                low: self.miss(segment, low),
+                high: self.miss(segment, high),
             },
             End::Last => unreachable!(),
             End::Partition => unreachable!(),

@@ -1,14 +1,22 @@
+use sk_decimal::Fixed;
 use sk_triples::Fall;
 use thiserror::Error;
 
-/// Why the line before a record could not go on to it.
+/// A record, and its observed time less that of a line there, which is rounded down to the time unit.
+#[derive(Clone, Copy, Debug, PartialEq, Eq)]
+pub struct Miss {
+    pub number: u32,
+    pub distance: Fixed<12>,
+}
+
+/// Why the line before a record could not go on to it, with distances from that line at its rate so far.
 #[derive(Clone, Copy, Debug, PartialEq, Eq)]
 pub enum Barrier {
-    /// It is the line of the old kernel's last triple, which misses the record.
-    OldLine,
+    /// It is the line of the old kernel's last triple, from which the record has this distance.
+    OldLine(Fixed<12>),
     /// Each allowed rate is too small at the record `low` or too large at the record `high`, of those that the line
     /// covers and the one before which it was left. Of equal ones it is the earliest.
-    Pair { low: u32, high: u32 },
+    Pair { low: Miss, high: Miss },
 }
 
 /// Why there is no publication.

@@ -189,7 +189,9 @@ impl Fitting {
         ensures stopped { IfErr result (StopsFit fit.now place obs.now self.old) }
     {
         if fit.is_full(self.dropped.len()) {
-            return Err(FitFault::NoRate(obs.number, fit.barrier(ended)));
+            let mut left = self.open_one;
+            left.ended = ended;
+            return Err(FitFault::NoRate(obs.number, fit.barrier(left, obs)));
         }
         match self.drop_place(place) {
             Ok(()) => Ok(()),

@@ -18,7 +18,7 @@ mod settings;
 mod start;
 
 pub use chain::{Chain, End, Segment};
-pub use fault::{Barrier, FitFault};
+pub use fault::{Barrier, FitFault, Miss};
 pub use publication::fit;
 pub use rates::{bounds, meets, run_rates};
 pub use settings::{Band, Bounds, Line, Settings};

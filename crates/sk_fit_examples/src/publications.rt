@@ -74,7 +74,11 @@ fn one_partition(rt: HostRuntime) -> Result<(), Fail> {
             "a,tick:256000,tdt:1000.002,0\nb,tick:512000,tdt:2000.004,0\n",
             "0 | 0 0 1000000000000000000 0-0 Fixed | 128000 500000000000000000000 1000002666000000000 0-2 Last",
         ),
-        (DEFAULTS, "a,tick:256000,tdt:1100,0\n", "NoRate(2, OldLine)"),
+        (
+            DEFAULTS,
+            "a,tick:256000,tdt:1100,0\n",
+            "NoRate(2, OldLine(Fixed { units: 100000000000000 }))",
+        ),
         (
             NINE_DECIMALS,
             "o,tick:1,tdt:0,0\na,tick:256000,tdt:1000.002,0\nb,tick:512000,tdt:2000.004,0\n",
@@ -223,24 +227,24 @@ fn dropped_observations(rt: HostRuntime) -> Result<(), Fail> {
         (
             one,
             "a,tick:256000,tdt:1000.002,0\nx,tick:384000,tdt:1600,0\ny,tick:385000,tdt:1700,0\n",
-            "NoRate(4, Pair { low: 4, high: 2 })",
+            "NoRate(4, Pair { low: Miss { number: 4, distance: Fixed { units: 196090742195313 } }, high: Miss { number: 2, distance: Fixed { units: 7813 } } })",
         ),
         (
             NINE_DECIMALS,
             "a,tick:256000,tdt:1000.002,0\nx,tick:384000,tdt:1600,0\n",
-            "NoRate(3, Pair { low: 3, high: 2 })",
+            "NoRate(3, Pair { low: Miss { number: 3, distance: Fixed { units: 99997000007813 } }, high: Miss { number: 2, distance: Fixed { units: 7813 } } })",
         ),
         // Too early, and so the record is the one at which every rate is too large.
         (
             NINE_DECIMALS,
             "a,tick:256000,tdt:1000.002,0\nx,tick:384000,tdt:1400,0\n",
-            "NoRate(3, Pair { low: 2, high: 3 })",
+            "NoRate(3, Pair { low: Miss { number: 2, distance: Fixed { units: 7813 } }, high: Miss { number: 3, distance: Fixed { units: -100002999992187 } } })",
         ),
         // The greatest rates are 1.000003 at a and 1.0000035 at b.
         (
             NINE_DECIMALS,
             "a,tick:256000,tdt:1000.002,0\nb,tick:512000,tdt:2000.006,0\nx,tick:768000,tdt:3100,0\n",
-            "NoRate(4, Pair { low: 4, high: 2 })",
+            "NoRate(4, Pair { low: Miss { number: 4, distance: Fixed { units: 99991750010743 } }, high: Miss { number: 2, distance: Fixed { units: -749989257 } } })",
         ),
     ];
     for (asked, records, want) in table {

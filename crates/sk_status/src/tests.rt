@@ -1,6 +1,7 @@
 ghost use Rattle.std.specs.Prelude.{pos, ◌<ℤ◌};
 
 use super::*;
+use sk_decimal::Fixed;
 use sk_edge::{MemorySink, Sink};
 use sk_fit::{Barrier, FitFault};
 use sk_grammar::{GrammarFault, Reason};
@@ -48,7 +49,7 @@ fn each_end_has_a_line_and_a_number(rt: HostRuntime) {
             "refused;5;Record;4;CodeRefused;CucAgencyEpoch\n",
         ),
         (
-            Status::NotPublished(FitFault::NoRate(7, Barrier::Pair { low: 5, high: 7 })),
+            Status::NotPublished(FitFault::NoRate(7, Barrier::OldLine(Fixed { units: -5 }))),
             6,
             "refused;6;NoRate;7\n",
         ),

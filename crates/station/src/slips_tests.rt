@@ -269,22 +269,22 @@ const RATE_SLIPS: [(&str, &str, &str); 4] = [
     (
         "id,clock,time,delay\na,tick:256000,tdt:1100,0\n",
         "refused;6;NoRate;2\n",
-        "The line of the kernel's last triple misses it too",
+        "the record lies 100000000.000000 us after that line.",
     ),
     (
         "id,clock,time,delay\na,tick:256000,tdt:1000.002,0\nx,tick:384000,tdt:1400,0\n",
         "refused;6;NoRate;3\n",
-        "too small at record 2 or too large at record 3",
+        "at record 2 (0.000813 us after the line) or too large at record 3 (100003000.002687 us before it).",
     ),
     (
         "id,clock,time,delay\na,tick:256000,tdt:1000.002,0\nx,tick:384000,tdt:1600,0\n",
         "refused;6;NoRate;3\n",
-        "too small at record 3 or too large at record 2",
+        "at record 3 (99996999.997313 us after the line) or too large at record 2 (0.000813 us after it).",
     ),
     (
         "id,clock,time,delay\na,tick:256000,tdt:1000.002,0\nb,tick:512000,tdt:2000.006,0\nx,tick:768000,tdt:3100,0\n",
         "refused;6;NoRate;4\n",
-        "too small at record 4 or too large at record 2",
+        "at record 4 (99991749.986743 us after the line) or too large at record 2 (749.997257 us before it).",
     ),
 ];
 

@@ -1,7 +1,10 @@
-use Rattle.std.proofs.Common.{ap, arith, length, subst, sym}
+use Rattle.std.proofs.Common.{◌≡◌, ap, arith, length, subst, sym}
 use Rattle.sk_publishing.specs.Row.{RowView}
-use Rattle.sk_publishing.specs.Chain.{EndView}
-use Rattle.sk_fit.specs.Given.{sight_at}
+use Rattle.sk_publishing.specs.Terms.{Sight, Terms}
+use Rattle.sk_publishing.specs.Chain.{SegmentView}
+use Rattle.sk_fit.specs.declared.chain.Segment.{Segment}
+use Rattle.sk_fit.specs.Given.{sight_at, segment_view, end_view}
+use Rattle.sk_fit.specs.Pairs.{ended_with}
 use Rattle.sk_fit.specs.Barriers.{IsBarrier}
 use Rattle.sk_fit.specs.State.{FittingView}
 use Rattle.sk_fit.specs.Context.{terms, all_of, Grows}
@@ -12,11 +15,15 @@ pub returns-then-is_full-clause-stopped : goal.returns-then-is_full-clause-stopp
 returns-then-is_full-clause-stopped c =
     let f : FittingView = c.args.self.now in
     let number = ap length (ap (λ (v : FittingView). v.dropped) c.self.view_is) in
-    let full = c.is_full.ensures.0 c.if-is_full.true in (
+    let full = c.is_full.ensures.0 c.if-is_full.true in
+    let t : Terms = terms c.args.fit.now in
+    let o : Sight = sight_at c.args.place c.args.obs.now in
+    let same : c.self.inside.open_one ≡ f.open_one = ap (λ (v : FittingView). v.open_one) c.self.view_is in (
       ap (λ (r : RowView). r.number) c.obs.view_is,
       λ kept dropped h. (
         (c.requires.none kept dropped h).0,
-        subst (λ (e : EndView). IsBarrier c.args.fit.now.rows e c.barrier.result) (sym (c.requires.none kept dropped h).1) c.barrier.ensures,
+        subst (λ (s : SegmentView). IsBarrier t.gauge c.args.fit.now.rows o s c.barrier.result) (sym (c.requires.none kept dropped h).1)
+            (subst (λ (s : Segment). IsBarrier t.gauge c.args.fit.now.rows o (ended_with (segment_view (all_of c.args.fit.now) f.dropped s) (end_view c.args.ended)) c.barrier.result) same c.barrier.ensures),
         room_gone (terms c.args.fit.now) (all_of c.args.fit.now) c.args.place f kept dropped h (omega arith),
       ),
     )
