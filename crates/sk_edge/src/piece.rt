@@ -1,7 +1,8 @@
 // One read of a file that is read in pieces.
-ghost use Rattle.std.specs.Prelude.{◌≡◌, ◌≤◌, ◌<◌, ◌+◌, ◌-◌, ◌^◌, min, ℕ, length, take, IfOk, IsErrOf};
+ghost use Rattle.std.specs.Prelude.{◌≡◌, ◌≤◌, ◌<◌, ◌+◌, ◌-◌, ◌^◌, min, [], ℕ, length, take, IfOk, IsErrOf};
 ghost use Rattle.std.specs.Io.{ReadsAtMost};
 ghost use Rattle.std.specs.Io.KnownBytes.{Consumes, IsAtEnd};
+ghost use Rattle.sk_edge.specs.Asked.{Asks};
 ghost use Rattle.sk_edge.specs.Causes.{Rose, NoneFalls};
 ghost use Rattle.sk_edge.specs.Transfer.{SameFiles, ReadsPast};
 
@@ -32,6 +33,10 @@ pub fn read_piece<D: Depot>(
     ensures bytes { IfOk result (λ count. Consumes (D.rest depot.old) (D.rest depot.new) (take count buf.new)) }
     ensures end { IfOk result (λ count. count ≡ 0 → IsAtEnd (D.rest depot.new)) }
     ensures given { IfOk result (λ count. D.given depot.new ≡ min (D.given depot.old + count) (2 ^ 64 - 1)) }
+    // A fault leaves the file where it was.
+    ensures refused { IsErrOf result PieceStop.Fault → D.rest depot.new ≡ D.rest depot.old }
+    ensures still_given { IsErrOf result PieceStop.Fault → D.given depot.new ≡ D.given depot.old }
+    ensures asks { Asks (D.asked depot.old) (D.asked depot.new) [] }
     ensures counts { NoneFalls (D.faults depot.old) (D.faults depot.new) }
     ensures fault { IsErrOf result PieceStop.Fault → Rose (D.faults depot.old name.now) (D.faults depot.new name.now) }
     // Too long is a file of which this read gives more than the limit leaves.

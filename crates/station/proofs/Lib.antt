@@ -1,3 +1,4 @@
+pub mod AskedFiles
 pub mod Sizes
 pub mod Joined
 pub mod Refusals

@@ -1,6 +1,8 @@
 //! The files that a command reads before it judges.
 ghost use Rattle.std.specs.Prelude.{◌≤◌, IfOk, length};
+ghost use Rattle.sk_edge.specs.Asked.{AsksAmong};
 ghost use Rattle.sk_words.specs.Asked.{options_in, NeedsNumber};
+ghost use Rattle.station.specs.Asking.{opened_names, inputs_names, audit_names};
 ghost use Rattle.sk_outcome.specs.Stage.{MayAnswer};
 ghost use Rattle.sk_outcome.specs.Seen.{seen_by, Stays};
 ghost use Rattle.sk_outcome.specs.Files.{opened_read, inputs_read, audit_read};
@@ -20,6 +22,7 @@ pub fn read_opened<D: Depot>(
 ) -> Result<Opened, Status>
     requires { NeedsNumber request.now.command }
     ensures stays { Stays D.holds D.faults depot.old depot.new }
+    ensures asks { AsksAmong (D.asked depot.old) (D.asked depot.new) (opened_names (options_in request.now)) }
     ensures stage { MayAnswer (λ o. o) (opened_read (seen_by D.holds D.given D.faults depot.old depot.new) (options_in request.now)) result }
 {
     let leap = leap_file(alloc, depot, request)?;
@@ -35,6 +38,7 @@ pub fn read_inputs<D: Depot>(
 ) -> Result<Inputs, Status>
     requires { NeedsNumber request.now.command }
     ensures stays { Stays D.holds D.faults depot.old depot.new }
+    ensures asks { AsksAmong (D.asked depot.old) (D.asked depot.new) (inputs_names (options_in request.now)) }
     ensures stage { MayAnswer (λ i. i) (inputs_read (seen_by D.holds D.given D.faults depot.old depot.new) (options_in request.now)) result }
     ensures few { IfOk result (λ i. length i.observations ≤ 100_000) }
 {
@@ -54,6 +58,7 @@ pub fn read_audit<D: Depot>(
 ) -> Result<AuditInputs, Status>
     requires { NeedsNumber request.now.command }
     ensures stays { Stays D.holds D.faults depot.old depot.new }
+    ensures asks { AsksAmong (D.asked depot.old) (D.asked depot.new) (audit_names (options_in request.now)) }
     ensures stage { MayAnswer (λ a. a) (audit_read (seen_by D.holds D.given D.faults depot.old depot.new) (options_in request.now)) result }
 {
     let inputs = read_inputs(alloc, depot, request)?;

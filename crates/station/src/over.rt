@@ -1,6 +1,8 @@
 //! The kernels of `--over`, joined behind the clock kernel.
 ghost use Rattle.std.specs.Prelude.{◌≡◌, ◌≤◌, length, map, IfOk};
+ghost use Rattle.sk_edge.specs.Asked.{AsksAmong};
 ghost use Rattle.sk_words.specs.Asked.{options_in};
+ghost use Rattle.station.specs.Asking.{joined_names};
 ghost use Rattle.sk_outcome.specs.Stage.{MayAnswer};
 ghost use Rattle.sk_outcome.specs.Seen.{seen_by, Stays};
 ghost use Rattle.sk_outcome.specs.Files.{HasFew};
@@ -24,6 +26,7 @@ fn joined_behind<D: Depot>(
 ) -> Result<Doc, Status>
     requires { length names.now ≤ 16 }
     ensures stays { Stays D.holds D.faults depot.old depot.new }
+    ensures asks { AsksAmong (D.asked depot.old) (D.asked depot.new) (map (λ n. n.now) names.now) }
     ensures stage { MayAnswer (λ d. d) (behind_stage (seen_by D.holds D.given D.faults depot.old depot.new) first (map (λ n. n.now) names.now)) result }
 {
     let mut doc = first;
@@ -45,6 +48,7 @@ pub fn joined_kernel<D: Depot>(
     request: &Request,
 ) -> Result<Doc, Status>
     ensures stays { Stays D.holds D.faults depot.old depot.new }
+    ensures asks { AsksAmong (D.asked depot.old) (D.asked depot.new) (joined_names (options_in request.now)) }
     ensures stage { MayAnswer (λ d. d) (joined_stage (seen_by D.holds D.given D.faults depot.old depot.new) (options_in request.now)) result }
     ensures few { IfOk result HasFew }
 {

@@ -1,5 +1,6 @@
 //! Files, and the documents in them.
-ghost use Rattle.std.specs.Prelude.{◌≡◌, ◌≤◌, length, List, ℕ, Some, Ok, Err, IfOk, IfErr};
+ghost use Rattle.std.specs.Prelude.{◌≡◌, ◌≤◌, length, List, [], ◌∷◌, ℕ, Some, Ok, Err, IfOk, IfErr};
+ghost use Rattle.sk_edge.specs.Asked.{Asks};
 ghost use Rattle.sk_grammar.specs.HasRead.{HasRead};
 ghost use Rattle.sk_outcome.specs.Stage.{MayAnswer};
 ghost use Rattle.sk_outcome.specs.Seen.{seen_by, Stays};
@@ -56,6 +57,7 @@ pub fn read_file<D: Depot>(
     name: &str,
 ) -> Result<Vec<u8>, Status>
     ensures stays { Stays D.holds D.faults depot.old depot.new }
+    ensures asks { Asks (D.asked depot.old) (D.asked depot.new) (name.now ∷ []) }
     ensures reads { MayAnswer (λ v. v.items) (reads (seen_by D.holds D.given D.faults depot.old depot.new) kind name.now) result }
 {
     match read_all(alloc, depot, name, FILE_LIMIT) {
@@ -70,6 +72,7 @@ pub fn read_file<D: Depot>(
 /// the file is read: a fault of reading behind it ends the run before it.
 fn fed<D: Depot>(alloc: Global, depot: &mut D, kind: FileKind, name: &str) -> Result<Reader, Status>
     ensures stays { Stays D.holds D.faults depot.old depot.new }
+    ensures asks { Asks (D.asked depot.old) (D.asked depot.new) (name.now ∷ []) }
     ensures read { IfOk result (λ reader. (bytes : List ℕ) × reads (seen_by D.holds D.given D.faults depot.old depot.new) kind name.now (Ok bytes) × HasRead reader bytes) }
     ensures refused { IfErr result (λ status. reads (seen_by D.holds D.given D.faults depot.old depot.new) kind name.now (Err status)) }
 {
@@ -124,6 +127,7 @@ pub fn document<D: Depot>(
     name: &str,
 ) -> Result<Doc, Status>
     ensures stays { Stays D.holds D.faults depot.old depot.new }
+    ensures asks { Asks (D.asked depot.old) (D.asked depot.new) (name.now ∷ []) }
     ensures stage { MayAnswer (λ d. d) (document_stage (seen_by D.holds D.given D.faults depot.old depot.new) kind name.now) result }
     ensures few { IfOk result HasFew }
 {

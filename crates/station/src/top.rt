@@ -2,11 +2,13 @@
 
 ghost use Rattle.std.specs.Prelude.{◌≡◌, ◌⊎◌, List, ℕ, Option, Some, Result, Ok, Err, map, string_bytes, IfErr, IsSome, All, codes, false, ◌∷◌};
 ghost use Rattle.std.specs.Io.KnownBytes.{Appends};
+ghost use Rattle.sk_edge.specs.Asked.{AsksAmong};
 ghost use Rattle.sk_edge.specs.Causes.{Rose};
 ghost use Rattle.sk_words.specs.Words.{is_taken};
 ghost use Rattle.sk_words.specs.Help.{page_of};
 ghost use Rattle.sk_words.specs.Asked.{options_in, Request as Asked};
 ghost use Rattle.sk_words.specs.Request.{files_of};
+ghost use Rattle.station.specs.Asking.{names_read, AsksBy};
 ghost use Rattle.sk_outcome.specs.Stage.{MayAnswer, gives};
 ghost use Rattle.sk_outcome.specs.Seen.{seen_by, Stays};
 ghost use Rattle.sk_outcome.specs.Outcome.{commanded, outcome, outcome_of, requested as requested_by};
@@ -48,6 +50,7 @@ fn command_text<D: Depot>(
     request: &Request,
 ) -> Result<Vec<u8>, Status>
     ensures stays { Stays D.holds D.faults depot.old depot.new }
+    ensures asks { AsksAmong (D.asked depot.old) (D.asked depot.new) (names_read request.now.command (options_in request.now)) }
     ensures stage { MayAnswer (λ v. v.items) (outcome_of request.now.command (seen_by D.holds D.given D.faults depot.old depot.new) (options_in request.now)) result }
 {
     match request.command() {
@@ -66,6 +69,7 @@ fn command_text<D: Depot>(
 /// What the words come to where they ask for a command, the first of which stands for the program's name.
 fn asked_text<D: Depot>(alloc: Global, words: &[&str], depot: &mut D) -> Result<Vec<u8>, Status>
     ensures stays { Stays D.holds D.faults depot.old depot.new }
+    ensures asks { AsksBy (D.asked depot.old) (D.asked depot.new) (map (λ w. w.now) words.now) }
     ensures stage { MayAnswer (λ v. v.items) (commanded (map (λ w. w.now) words.now) (seen_by D.holds D.given D.faults depot.old depot.new)) result }
     ensures not_taken { result ≡ Err (Status.WordsRefused WordsFault.NotTaken) → is_taken (map (λ w. w.now) words.now) ≡ false }
 {
@@ -90,6 +94,7 @@ fn page_text(alloc: Global, topic: Topic) -> Result<Vec<u8>, Status>
 /// What the words and the files come to.
 fn whole_text<D: Depot>(alloc: Global, words: &[String], depot: &mut D) -> Result<Vec<u8>, Status>
     ensures stays { Stays D.holds D.faults depot.old depot.new }
+    ensures asks { AsksBy (D.asked depot.old) (D.asked depot.new) (codes "station" ∷ map string_bytes words.now) }
     ensures stage { MayAnswer (λ v. v.items) (outcome (map string_bytes words.now) (seen_by D.holds D.given D.faults depot.old depot.new)) result }
     ensures not_taken { result ≡ Err (Status.WordsRefused WordsFault.NotTaken) → is_taken (codes "station" ∷ map string_bytes words.now) ≡ false }
 {
@@ -116,6 +121,7 @@ fn write_text<S: Sink>(out: &mut S, text: &[u8]) -> Status
 /// Writes what the words and the files come to; nothing where they are refused.
 fn ended<D: Depot, S: Sink>(alloc: Global, words: &[String], depot: &mut D, out: &mut S) -> Status
     ensures stays { Stays D.holds D.faults depot.old depot.new }
+    ensures asks { AsksBy (D.asked depot.old) (D.asked depot.new) (codes "station" ∷ map string_bytes words.now) }
     ensures ends { Ends (outcome (map string_bytes words.now) (seen_by D.holds D.given D.faults depot.old depot.new)) (written_by S.written S.faults out.old out.new) result }
     ensures not_taken { result ≡ Status.WordsRefused WordsFault.NotTaken → is_taken (codes "station" ∷ map string_bytes words.now) ≡ false }
     ensures apart { CarriesNoMemory result }
@@ -189,6 +195,9 @@ pub fn run<D: Depot, S: Sink, N: Sink>(
 
     // Files hold what they held, and no count falls: a run may follow another over the same depot.
     ensures stays { Stays D.holds D.faults depot.old depot.new }
+
+    // No file is asked for but those of the command that the words ask for, each at most once, in the order of the options.
+    ensures asks { AsksBy (D.asked depot.old) (D.asked depot.new) (codes "station" ∷ map string_bytes words.now) }
 
     // Want of memory is status 9, and no other status carries it.
     ensures apart { CarriesNoMemory result }

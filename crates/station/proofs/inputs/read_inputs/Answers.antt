@@ -1,11 +1,14 @@
-use Rattle.std.proofs.Common.{Ok}
+use Rattle.std.proofs.Common.{[], ◌∷◌, Ok}
 use Rattle.sk_words.specs.Asked.{options_in}
-use Rattle.sk_words.specs.Request.{Options}
+use Rattle.sk_words.specs.declared.tables.OptionName.TheVariants as opt
+use Rattle.sk_words.specs.Request.{Options, text_or}
 use Rattle.sk_outcome.specs.Seen.{Source, seen_by}
 use Rattle.sk_outcome.specs.Stage.{gives}
 use Rattle.sk_outcome.specs.Files.{OpenedRead, InputsRead, opened_read, observation_file}
 use Rattle.sk_outcome.proofs.Follows.{rows_after, opened_follows, rows_after_follow}
 use Rattle.sk_outcome.proofs.Moves.{reads_then, may_end_as, handed_on}
+use Rattle.sk_edge.proofs.Asking.{among_all, among_then, among_front}
+use Rattle.station.specs.Asking.{opened_names}
 use Rattle.station.proofs.inputs.read_inputs.Goals as goal
 
 pub returns-in_err-observations-clause-stage : goal.returns-in_err-observations-clause-stage
@@ -30,3 +33,18 @@ returns-clause-stage g c =
     c.args.depot.now c.read_opened.new.depot c.observation_file.new.depot opened (Ok (record { kernel = c.opened.inside.kernel; observations = c.in_ok-observations.observations }))
     (opened_follows options) (rows_after_follow options) c.read_opened.ensures.stays c.in_ok-opened.ensures.stage
     (c.in_ok-observations.observations, c.in_ok-observations.ensures.stage, λ i. Ok (record { kernel = (c.opened.view_is i).kernel; observations = c.in_ok-observations.observations }))
+
+pub returns-in_err-opened-clause-asks : goal.returns-in_err-opened-clause-asks
+returns-in_err-opened-clause-asks g c =
+    let options : Options = options_in c.args.request.now in
+    among_front _ _ (opened_names options) (text_or opt.Obs options ∷ []) c.read_opened.ensures.asks
+
+pub returns-in_err-observations-clause-asks : goal.returns-in_err-observations-clause-asks
+returns-in_err-observations-clause-asks g c =
+    let options : Options = options_in c.args.request.now in
+    among_then _ _ _ (opened_names options) (text_or opt.Obs options ∷ []) c.read_opened.ensures.asks (among_all _ _ _ c.observation_file.ensures.asks)
+
+pub returns-clause-asks : goal.returns-clause-asks
+returns-clause-asks g c =
+    let options : Options = options_in c.args.request.now in
+    among_then _ _ _ (opened_names options) (text_or opt.Obs options ∷ []) c.read_opened.ensures.asks (among_all _ _ _ c.observation_file.ensures.asks)

@@ -1,4 +1,5 @@
 use Rattle.std.proofs.Common.{◌≡◌, ◌∷◌, List, ℕ, map, take, Ok}
+use Rattle.sk_edge.specs.Asked.{Asks}
 use Rattle.sk_edge.specs.Causes.{NoneFalls}
 use Rattle.sk_edge.specs.Transfer.{SameFiles}
 use Rattle.sk_grammar.specs.Document.{DocView}
@@ -13,6 +14,7 @@ invariant-loop-index g l =
     let depot = g.D.Depot in
     record {
       same_files : SameFiles (depot.holds l.fn.depot) (depot.holds l.depot);
+      asks : Asks (depot.asked l.fn.depot) (depot.asked l.depot) (take l.index (map (λ n. n.now) l.names));
       counts : NoneFalls (depot.faults l.fn.depot) (depot.faults l.depot);
       read : (docs : List DocView)
           × over_documents (seen_by depot.holds depot.given depot.faults l.fn.depot l.depot) 1 (take l.index (map (λ n. n.now) l.names)) (Ok docs)

@@ -1,4 +1,4 @@
-use Rattle.std.proofs.Common.{◌≡◌, ℕ, arith, List, length, map, ap, subst, ◌∙◌, Bor}
+use Rattle.std.proofs.Common.{◌≡◌, ◌∷◌, [], Option, ℕ, arith, List, length, map, ap, subst, ◌∙◌, Bor}
 use Rattle.std.proofs.lemmas.List.{length-map}
 use Rattle.sk_grammar.specs.Document.{DocView}
 use Rattle.sk_status.specs.declared.status.DocumentKind.TheVariants.{Kernel}
@@ -9,6 +9,8 @@ use Rattle.sk_outcome.specs.Stage.{MayAnswer}
 use Rattle.sk_outcome.specs.Seen.{Source, seen_by}
 use Rattle.sk_outcome.specs.Files.{kernel_document}
 use Rattle.sk_outcome.specs.Joined.{joined_behind, named_over}
+use Rattle.sk_edge.specs.Asked.{AsksAmong}
+use Rattle.sk_edge.proofs.Asking.{among_all, among_then, among_front}
 use Rattle.station.proofs.Joined.{few_behind}
 use Rattle.sk_outcome.proofs.Follows.{kernel_document_follows, behind_follows}
 use Rattle.sk_outcome.proofs.Moves.{reads_then}
@@ -35,3 +37,17 @@ returns-clause-few g c =
     let now : Bor (List ℕ) → List ℕ = λ n. n.now in
     few_behind before last Kernel (text_or opt.Kernel (options_in c.args.request.now)) (map now c.as_slice.result.now) c.in_ok-first.first c.joined_behind.result
     c.in_ok-first.ensures.stage (omega (arith, length-map c.as_slice.result.now now, ap length c.as_slice.ensures.value, c.in-Ok.ensures.few)) c.joined_behind.ensures.stage
+
+pub returns-in_err-first-clause-asks : goal.returns-in_err-first-clause-asks
+returns-in_err-first-clause-asks g c =
+    let options : Options = options_in c.args.request.now in
+    among_front _ _ (text_or opt.Kernel options ∷ []) (named_over options) (among_all _ _ _ c.kernel_document.ensures.asks)
+
+pub returns-clause-asks : goal.returns-clause-asks
+returns-clause-asks g c =
+    let depot = g.D.Depot in
+    let options : Options = options_in c.args.request.now in
+    let names_are : map (λ (n : Bor (List ℕ)). n.now) c.as_slice.result.now ≡ named_over options =
+    ap (map (λ (n : Bor (List ℕ)). n.now)) c.as_slice.ensures.value ∙ c.in-Ok.ensures.names in
+    among_then _ _ _ (text_or opt.Kernel options ∷ []) (named_over options) (among_all _ _ _ c.kernel_document.ensures.asks)
+    (subst (λ (names : List (List ℕ)). AsksAmong (depot.asked c.kernel_document.new.depot) (depot.asked c.joined_behind.new.depot) names) names_are c.joined_behind.ensures.asks)

@@ -1,6 +1,7 @@
 use Rattle.std.proofs.Common.{rules, arith, ◌≡◌, ◌≤◌, length, List, ℕ, ◌++◌, take, length-append, length-take}
 use Rattle.std.proofs.KnownBytes.{Consumes-trans}
 use Rattle.std.proofs.lemmas.List.Sums.{count_by-le-length}
+use Rattle.sk_edge.proofs.Asking.{Asks-kept}
 use Rattle.sk_grammar.specs.Lines.{is_line_feed}
 use Rattle.station.proofs.reading.fed.Goals as goal
 
@@ -23,5 +24,6 @@ loop-count-preserved g c =
       given = search rules;
       within = search rules;
       lines = omega (arith, long, c.loop-count.invariant.lines, c.feed.ensures.count, count_by-le-length is_line_feed front);
+      asks = Asks-kept _ _ _ _ c.loop-count.invariant.asks c.in-Ok-read_piece.ensures.asks;
       counts = search rules;
     }

@@ -1,5 +1,6 @@
-use Rattle.std.proofs.Common.{◌≡◌, ◌≤◌, List, ℕ, length, ◌-◌}
+use Rattle.std.proofs.Common.{◌≡◌, ◌≤◌, List, [], ◌∷◌, ℕ, length, ◌-◌}
 use Rattle.std.specs.Io.KnownBytes.{Consumes}
+use Rattle.sk_edge.specs.Asked.{Asks}
 use Rattle.sk_edge.specs.Causes.{NoneFalls}
 use Rattle.sk_edge.specs.Transfer.{SameFiles}
 use Rattle.sk_grammar.specs.HasRead.{HasRead, ended_count}
@@ -16,6 +17,7 @@ invariant-loop-count g l =
       given : depot.given l.depot ≡ l.taken;
       within : l.taken ≤ 16777216;
       lines : ended_count l.reader ≤ l.taken;
+      asks : Asks (depot.asked l.fn.depot) (depot.asked l.depot) (l.name ∷ []);
       counts : NoneFalls (depot.faults l.fn.depot) (depot.faults l.depot);
     }
 
