@@ -1,5 +1,29 @@
-#!/usr/bin/env python3
-"""The picture of residuals by independent arithmetic: prints the SVG of a list of observations and triples."""
+#!/usr/bin/env -S python3 -B
+"""Pictures of random publications, in every byte, and by a second kernel too; each is well-formed XML.
+
+Where a mark, a line, a step or a label stands is computed here from docs/PLOT.md, in whole numbers and fractions, and so are
+the residuals. Where xmllint is installed it reads the pictures as well, and where rsvg-convert is it renders them.
+"""
+import shutil
+import subprocess
+import sys
+from fractions import Fraction
+from math import floor
+from xml.parsers import expat
+
+from common import PICO, kernel_text, main, table
+from headline import Kernel, triples
+from publications import publications
+
+SPAN = 10**23  # after all times
+MICRO = 86_400_000_000  # picoseconds of a millionth of a day
+OPENING = (
+    '<svg xmlns="http://www.w3.org/2000/svg" version="1.1" width="1240" height="{0}" viewBox="0 0 1240 {0}" '
+    'font-family="sans-serif" font-size="12" fill="#333333">\n<style>@media(prefers-color-scheme:dark){{svg{{fill:#d8dce0}}'
+    ".page{{fill:#15181b}}.frame{{stroke:#70767c}}.band{{fill:#1d3226}}.grid{{stroke:#33383d}}.inside{{fill:#7fb2ff}}"
+    ".outside,.value{{fill:#ff6b7d}}.rate{{stroke:#c58af0}}.triple,.partition{{stroke:#f0a050}}.number{{fill:#f0a050}}}}"
+    '</style>\n<rect class="page" fill="#ffffff" width="1240" height="{0}"/>\n'
+)
 
 
 def rounded(wanted):
@@ -39,85 +63,166 @@ def rise(reach, tolerance, value):
     return scaled(value)
 
 
-MICRO = 86_400_000_000
+class Axes:
+    """A panel: its days, the place of its line of 0, the step of its values and the tolerance."""
+
+    def __init__(self, left, day, zero, step, tolerance):
+        self.begin, self.wide, self.zero, self.step, self.tolerance = left * MICRO, 10 * day * MICRO, zero, step, tolerance
+
+    def across(self, time):
+        return 12000 + (min(max(time, self.begin), self.begin + self.wide) - self.begin) * 100000 // self.wide
+
+    def down(self, value):
+        return fixed(2, 100 * self.zero - rise(5 * self.step, self.tolerance, value))
+
+    def ground(self):
+        top, lines = self.zero - 205, "m100-410".join(["v410"] * 9)
+        yield f'<rect class="frame" fill="none" stroke="#8a9096" x="120" width="1000" height="410" y="{top}"/>\n'
+        yield f'<path class="grid" stroke="#e3e6e8" d="M220 {top}{lines}"/>\n'
+        for k in range(11):
+            y = self.zero + 200 - 40 * k
+            yield f'<path class="grid" stroke="#c8ccd0" d="M120 {y}H1120"/>\n<text x="112" y="{y}" dy="4" '
+            yield f'text-anchor="end">{label(self.step, (k - 5) * self.step)}</text>\n'
+
+    def lines(self, pieces):
+        following = 0
+        for number, start, _, begins, _ in pieces:
+            at = self.across(start)
+            if self.begin <= start <= self.begin + self.wide and (begins or following <= at):
+                style = 'partition" stroke-width="2.5' if begins else 'triple" stroke-dasharray="4 3'
+                yield f'<path stroke="#b85c00" class="{style}" d="M{fixed(2, at)} {self.zero - 205}v410"/>\n'
+                yield f'<text class="number" fill="#b85c00" text-anchor="middle" x="{fixed(2, at)}" y="{self.zero - 210}">'
+                yield f"{number}</text>\n"
+                following = at + 2400
 
 
-def picture(opening, frames, title, foot, tolerance, points, pieces):
-    """points: (id, clock, time, residual); pieces: (number, from, to, begins, drift)."""
-    times = [p[2] for p in points] or [0]
+def residuals(name, left, day, zero, tolerance, points, pieces):
+    """points: (id, clock text, time, residual); pieces: (number, from, to, begins a partition, drift)."""
+    worst = max(points, key=lambda p: abs(p[3]), default=None)  # the first of equal ones
+    axes = Axes(left, day, zero, step_for(tolerance, abs(worst[3]) if worst else 0), tolerance)
+    reach = 5 * axes.step
+    top, bottom = tolerance * 20000 // reach, -tolerance * 20000 // reach
+    yield f'<rect class="band" fill="#e3f1e8" x="120" width="1000" y="{fixed(2, 100 * zero - top)}" '
+    yield f'height="{fixed(2, top - bottom)}"/>\n'
+    yield from axes.ground()
+    outside = sum(abs(p[3]) > tolerance for p in points)
+    yield f'<text x="120" y="{zero - 228}">Residuals by {name} in microseconds: {outside} of {len(points)} outside '
+    yield fixed(6, tolerance) + (f", the worst {fixed(6, worst[3])} of {escaped(worst[0])}" if worst else "") + "</text>\n"
+    yield from axes.lines(pieces)
+    for name, clock, time, value in points:
+        style = 'inside" fill="#1d4f91' if abs(value) <= tolerance else 'outside" fill="#c00020'
+        x, y = fixed(2, axes.across(time)), axes.down(value)
+        yield f'<circle class="{style}" cx="{x}" cy="{y}" r="2.5"><title>{escaped(name)} {escaped(clock)} '
+        yield f"{fixed(6, value)} us</title></circle>\n"
+        if abs(value) > reach:
+            yield f'<text class="value" fill="#c00020" x="{x}" y="{y}" dx="6" dy="4">{fixed(6, value)}</text>\n'
+
+
+def rates(left, day, zero, pieces):
+    begin, end = left * MICRO, (left + 10 * day) * MICRO
+    met = [p for p in pieces if p[1] <= end and begin <= p[2]]
+    step = step_for(min(max((abs(p[4]) for p in met), default=0), 10**17), 0)
+    axes = Axes(left, day, zero, step, 5 * step)
+    yield from axes.ground()
+    yield f'<text x="120" y="{zero - 228}">Rates of --kernel in parts of 10^9 from that of triple 1, '
+    yield "over days of TDT past J2000</text>\n"
+    yield from axes.lines(pieces)
+    for number, start, to, _, drift in met:
+        yield f'<path class="rate" fill="none" stroke="#6b2d90" stroke-width="2" d="M{fixed(2, axes.across(start))} '
+        yield f'{axes.down(drift)}H{fixed(2, axes.across(to))}"><title>triple {number}: {fixed(6, drift)}</title></path>\n'
+
+
+def picture(title, foot, tolerance, panel, newer=None):
+    """A panel is its points and its pieces."""
+    points, pieces = panel
+    times, lower = [p[2] for p in points] or [0], 460 if newer else 0
     first, last = min(times) // MICRO, max(times) // MICRO
     day = rounded((last - first) // 9 + 1)
     left = first - first % day
-    step = step_for(tolerance, max([abs(p[3]) for p in points] or [0]))
-    rate = step_for(min(max([abs(p[4]) for p in pieces] or [0]), 10**17), 0)
-    begin, wide = left * MICRO, 10 * day * MICRO
-    x = lambda t: 12000 + (min(max(t, begin), begin + wide) - begin) * 100000 // wide
-    outside = sum(abs(p[3]) > tolerance for p in points)
-    worst = max([abs(p[3]) for p in points] or [0])
-    out = [opening]
-    out.append(f'<text x="120" y="26" font-size="18">{escaped(title)}</text>\n<text x="120" y="46">{len(points)}')
-    out.append(f" observations, {outside} outside, the worst of {worst} ps</text>\n")
+    out = [OPENING.format(1030 + lower), f'<text x="120" y="26" font-size="18">{escaped(title)}</text>\n']
+    span = f", days {fixed(6, first)} to {fixed(6, last)}" if points else ""
+    out.append(f'<text x="120" y="46">{len(points)} observations{span}</text>\n')
+    out += residuals("--kernel", left, day, 300, tolerance, points, pieces)
+    if newer:
+        out += residuals("--new", left, day, 760, tolerance, *newer)
+    out += rates(left, day, 760 + lower, pieces)
     for k in range(11):
-        c = 120 + 100 * k
-        out.append(f'<path class="grid" stroke="#e3e6e8" d="M{c} 75V945"/>\n<text x="{c}" y="965" text-anchor="middle">')
-        out.append(f"{label(day, left + k * day)}</text>\n")
-    out.append(frames)
-
-    def levels(bottom, s):
-        for k in range(11):
-            y = bottom - 40 * k
-            out.append(f'<path class="grid" stroke="#c8ccd0" d="M120 {y}H1120"/>\n<text x="112" y="{y}" dy="4" ')
-            out.append(f'text-anchor="end">{label(s, (k - 5) * s)}</text>\n')
-
-    levels(940, rate)
-    following = 0
-    for number, start, end, begins, drift in pieces:
-        y = fixed(2, 74000 - rise(5 * rate, 5 * rate, drift))
-        out.append(f'<path class="rate" fill="none" stroke="#6b2d90" stroke-width="2" d="M{fixed(2, x(start))} {y}H')
-        out.append(f'{fixed(2, x(end))}"><title>triple {number}: {fixed(6, drift)}</title></path>\n')
-        if begin <= start <= begin + wide and (begins or following <= x(start)):
-            style = 'partition" stroke-width="2.5' if begins else 'triple" stroke-dasharray="4 3'
-            out.append(f'<path stroke="#b85c00" class="{style}" d="M{fixed(2, x(start))} 75V945"/>\n')
-            out.append(f'<text class="number" fill="#b85c00" x="{fixed(2, x(start))}" y="70" text-anchor="middle">')
-            out.append(f"{number}</text>\n")
-            following = x(start) + 2400
-    reach = 5 * step
-    top, bottom = tolerance * 20000 // reach, -tolerance * 20000 // reach
-    out.append(f'<rect class="band" fill="#e3f1e8" fill-opacity="0.5" x="120" width="1000" y="{fixed(2, 28000 - top)}" ')
-    out.append(f'height="{fixed(2, top - bottom)}"/>\n')
-    levels(480, step)
-    for name, clock, time, value in points:
-        style = 'inside" fill="#1d4f91' if abs(value) <= tolerance else 'outside" fill="#c00020'
-        a, b = fixed(2, x(time)), fixed(2, 28000 - rise(reach, tolerance, value))
-        out.append(f'<circle class="{style}" cx="{a}" cy="{b}" r="2.5"><title>{escaped(name)} {escaped(clock)} ')
-        out.append(f"{fixed(6, value)} us</title></circle>\n")
-        if abs(value) > reach:
-            out.append(f'<text class="value" fill="#c00020" x="{a}" y="{b}" dx="6" dy="4">{fixed(6, value)}</text>\n')
-    out.append(f'<text x="120" y="992" font-size="11">{escaped(foot)}</text>\n</svg>\n')
+        out.append(f'<text x="{120 + 100 * k}" y="{985 + lower}" text-anchor="middle">{label(day, left + k * day)}</text>\n')
+    out.append(f'<text x="120" font-size="11" y="{1012 + lower}">{escaped(foot)}</text>\n</svg>\n')
     return "".join(out)
 
 
-def constants(source):
-    """The two constant texts, read from the crate's document.rt."""
-    import ast
-    import re
+def panel(clock, found, observations):
+    """The points of the observations by these triples, and their pieces."""
+    kernel, starts = Kernel(clock, found), [floor(one[1] * PICO) for one in found]
+    points = [(one.name, clock.text(one.tick), one.time, one.time - floor(kernel.time(one.tick) * PICO)) for one in observations]
+    parts = [clock.partition(one[0]) for one in found]
+    pieces = [
+        (n + 1, starts[n], (starts + [SPAN])[n + 1], n > 0 and parts[n - 1] < parts[n], floor((one[2] / found[0][2] - 1) * 10**15))
+        for n, one in enumerate(found)
+    ]
+    return points, pieces
 
-    text = open(source).read()
-    return [ast.literal_eval('"' + re.search(name + r': &\[u8\] =\s*b"(.*?)";\n', text, re.S).group(1) + '"') for name in ("OPENING", "FRAMES")]
+
+VERSION = "station 0.9.0 plot"
+OPTIONS = ("kernel", "obs", "sc", "tol_ns", "new")
+
+
+def wanted(case, options, newer):
+    foot = "".join(f" --{o.replace('_', '-')}={o if o in ('kernel', 'obs', 'new') else options[o]}" for o in OPTIONS if o in options)
+    first = panel(case.clock, case.old, case.observations)
+    second = panel(case.clock, newer, case.observations) if newer else None
+    title = f"Clock residuals, spacecraft {case.clock.number}"
+    return picture(title, VERSION + foot, case.settings.tol_ns * 1000, first, second)
+
+
+def renders(text):
+    """Whether the tools that are installed read it."""
+    for tool in (["xmllint", "--noout", "-"], ["rsvg-convert", "--output=/dev/null", "-"]):
+        if shutil.which(tool[0]):
+            if subprocess.run(tool, input=text.encode(), stdout=subprocess.DEVNULL, stderr=subprocess.DEVNULL).returncode:
+                return False
+    return True
+
+
+def check(program):
+    cases, marks, both = publications(1, 120), 0, 0
+    published = program.calls(case.asked() for case in cases)
+    asked = []
+    for case, kernel in zip(cases, published):
+        options = {o: v for o, v in case.asked()[1].items() if o in OPTIONS}
+        if not kernel.status:
+            options["new"] = kernel.out
+        asked.append(("plot", options))
+    for case, (_, options), answer in zip(cases, asked, program.calls(asked)):
+        early = next((one for one in case.observations if one.tick < case.old[0][0]), None)
+        if early:
+            if (answer.status, answer.out) != (5, "") or answer.note != f"refused;5;Range;{early.number};BeforeFirst":
+                answer.differs("is not refused")
+            continue
+        newer = triples(options["new"], case.clock.number) if "new" in options else None
+        if answer.done().out != wanted(case, options, newer):
+            answer.differs("another picture is wanted:\n" + wanted(case, options, newer))
+        expat.ParserCreate().Parse(answer.out.encode("latin-1"), True)
+        if not renders(answer.out):
+            answer.differs("a tool does not read it")
+        marks += len(case.observations) * (2 if newer else 1)
+        both += bool(newer)
+    return f"{len(cases)} pictures, {both} of them by two kernels, {marks} marks"
+
+
+def sample():
+    """A picture without files, as crates/sk_plot/src/tests.rt has it: printed by `plot.py sample`."""
+    day = 86_400 * PICO
+    points = [("a<b", "1/0:0", 8766 * day, 200 * 10**6), ("c", "1/1:0", 8766 * day + 3600 * PICO, 5140 * 10**6)]
+    pieces = [(1, 8764 * day, 8766 * day + 1800 * PICO, False, 0), (2, 8766 * day + 1800 * PICO, SPAN, True, 37 * 10**6)]
+    newer = [("a<b", "1/0:0", 8766 * day, -100 * 10**6), ("c", "1/1:0", 8766 * day + 3600 * PICO, -201 * 10**6)], pieces[:1]
+    yield picture("A & B", 'foot "1"', 200 * 10**6, (points, pieces))
+    yield picture("A & B", 'foot "1"', 200 * 10**6, (points, pieces), newer)
 
 
 if __name__ == "__main__":
-    import random
-    import sys
-
-    count = int(sys.argv[1]) if len(sys.argv) > 1 else 20
-    rng = random.Random(7)
-    day = 86_400 * 10**12
-    points = [
-        (f"dss34-{k}", f"1/{k:010d}:000", 8766 * day + k * 16 * day // count, rng.randint(-250, 250) * 10**6) for k in range(count)
-    ]
-    if count > 3:
-        points[3] = ("a<b&\"c'>\x01", points[3][1], points[3][2], 5140 * 10**6)
-    pieces = [(k + 1, 8764 * day + k * 4 * day, 8768 * day + k * 4 * day, k == 2, (k * 37 % 50) * 10**6) for k in range(5)]
-    opening, frames = constants("crates/sk_plot/src/document.rt")
-    sys.stdout.write(picture(opening, frames, "Clock residuals, spacecraft -99", "residuals", 200 * 10**6, points, pieces))
+    if sys.argv[1:] == ["sample"]:
+        sys.stdout.write("".join(sample()))
+    else:
+        main(check)

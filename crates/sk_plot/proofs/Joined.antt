@@ -20,5 +20,17 @@ pub six : (a b c d f g h x y z w v u : List ℕ) → b ≡ a ++ x → c ≡ b ++
     → h ≡ a ++ (x ++ (y ++ (z ++ (w ++ (v ++ u)))))
 six a b c d f g h x y z w v u p q r s t i = two a b h x (y ++ (z ++ (w ++ (v ++ u)))) p (five b c d f g h y z w v u q r s t i)
 
+pub seven : (a b c d f g h j x y z w v u s : List ℕ) → b ≡ a ++ x → c ≡ b ++ y → d ≡ c ++ z → f ≡ d ++ w → g ≡ f ++ v → h ≡ g ++ u → j ≡ h ++ s
+    → j ≡ a ++ (x ++ (y ++ (z ++ (w ++ (v ++ (u ++ s))))))
+seven a b c d f g h j x y z w v u s p q r k t i l = two a b j x (y ++ (z ++ (w ++ (v ++ (u ++ s))))) p (six b c d f g h j y z w v u s q r k t i l)
+
+pub eight : (a b c d f g h j m x y z w v u s e : List ℕ) → b ≡ a ++ x → c ≡ b ++ y → d ≡ c ++ z → f ≡ d ++ w → g ≡ f ++ v → h ≡ g ++ u → j ≡ h ++ s → m ≡ j ++ e
+    → m ≡ a ++ (x ++ (y ++ (z ++ (w ++ (v ++ (u ++ (s ++ e)))))))
+eight a b c d f g h j m x y z w v u s e p q r k t i l o = two a b m x (y ++ (z ++ (w ++ (v ++ (u ++ (s ++ e)))))) p (seven b c d f g h j m y z w v u s e q r k t i l o)
+
 pub label_at : (old new : List ℕ) (step : ℕ) (v z : ℤ) → v ≡ z → new ≡ old ++ label_text step v → new ≡ old ++ label_text step z
 label_at old new step v z e f = f ∙ ap (λ (x : ℤ). old ++ label_text step x) e
+
+-- the same of an equal value
+pub moved : {A : Type 0} (f : A → List ℕ) (old new : List ℕ) (x y : A) → x ≡ y → new ≡ old ++ f x → new ≡ old ++ f y
+moved f old new x y e h = h ∙ ap (λ a. old ++ f a) e

@@ -1,288 +1,208 @@
 //! The document.
 
-ghost use Rattle.std.specs.Prelude.{◌≡◌, ◌≤◌, ◌*◌, ◌^◌, ◌++◌, pos, neg_ℤ, ◌-ℤ◌, ◌≤ℤ◌, length, decimal, OnOk, IfOk};
-ghost use Rattle.sk_plot.specs.Picture.{IsSheet, sheet_of as sheet_of_axes, opening, frames, head_text, band_at, band_text, foot_text, residuals_text, rates_text, panels_text, picture_of, shown_drift};
-ghost use Rattle.sk_plot.specs.Picture.{AreDays, IsScale, scale_of as scale_of_data, outside_count as outside_count_of, worst_size as worst_size_of, earliest as earliest_of, latest as latest_of};
-ghost use Rattle.sk_plot.specs.Place.{band_top as band_top_of, band_bottom as band_bottom_of};
-ghost use Rattle.sk_plot.specs.Scale.{step_of, wanted_of, step_over, micro as micro_of, day_left};
+ghost use Rattle.std.specs.Prelude.{◌≡◌, ◌≤◌, ◌^◌, ◌++◌, pos, neg_ℤ, ◌≤ℤ◌, OnOk, IfOk, option_map};
+ghost use Rattle.sk_plot.specs.Picture.{AreDays, shift_of as shift_by, opening, span_text, head_text, foot_text, kernel_panel, new_panel, rate_panel, layout_of as layout_by, panels_text, days_of as days_by, picture_of};
+ghost use Rattle.sk_plot.specs.Scale.{micro as micro_of};
 
-use crate::axis::{push_counted, push_days, push_levels};
-use crate::extent::{earliest, latest, outside_count, worst_size};
-use crate::mark::{push_marks, push_named, push_placed, push_text};
-use crate::piece::{Piece, push_pieces, worst_drift};
-use crate::place::{Sheet, Values, band_bottom, band_top};
-use crate::point::Point;
-use crate::scale::{Days, PER_MICRO, days_of, step_for};
+use crate::axis::push_days;
+use crate::extent::{earliest, latest};
+use crate::mark::{push_counted, push_named, push_text, push_valued};
+use crate::panel::{axes_of, push_rates, push_residuals, rate_axes};
+use crate::point::{Panel, Point};
+use crate::scale::{Days, days_of, micro};
 use sk_checks::NoMemory;
-use sk_decimal::{Fixed, Line};
+use sk_decimal::Fixed;
 use std::alloc::Global;
 
-const OPENING: &[u8] =
-    b"<svg xmlns=\"http://www.w3.org/2000/svg\" version=\"1.1\" width=\"1160\" height=\"1010\" viewBox=\"0 0 1160 1010\" font-family=\"sans-serif\" font-size=\"12\" fill=\"#333333\">\n<style>@media(prefers-color-scheme:dark){.page{fill:#15181b}.frame{stroke:#70767c}.band{fill:#1d3226}.grid{stroke:#33383d}.inside{fill:#7fb2ff}.outside,.value{fill:#ff6b7d}.rate{stroke:#c58af0}.triple,.partition{stroke:#f0a050}.number{fill:#f0a050}svg{fill:#d8dce0}}</style>\n<rect class=\"page\" fill=\"#ffffff\" width=\"1160\" height=\"1010\"/>\n";
+const STYLE: &[u8] =
+    b"\" font-family=\"sans-serif\" font-size=\"12\" fill=\"#333333\">\n<style>@media(prefers-color-scheme:dark){svg{fill:#d8dce0}.page{fill:#15181b}.frame{stroke:#70767c}.band{fill:#1d3226}.grid{stroke:#33383d}.inside{fill:#7fb2ff}.outside,.value{fill:#ff6b7d}.rate{stroke:#c58af0}.triple,.partition{stroke:#f0a050}.number{fill:#f0a050}}</style>\n<rect class=\"page\" fill=\"#ffffff\" width=\"1240\" height=\"";
 
-const FRAMES: &[u8] =
-    b"<g class=\"frame\" fill=\"none\" stroke=\"#8a9096\"><rect x=\"120\" y=\"75\" width=\"1000\" height=\"410\"/><rect x=\"120\" y=\"535\" width=\"1000\" height=\"410\"/></g>\n<text x=\"120\" y=\"505\">Residuals in microseconds, and rates in parts of 10^9 from the first one, over days of TDT past J2000</text>\n";
-
-const MOST_DRIFT: u128 = 100_000_000_000_000_000;
-
-/// What is written over the picture and below it.
+/// What is drawn: what is written over the picture and below it, and the tolerance, in 10^-12 s.
 #[derive(Debug, Drop)]
-pub struct Words {
+pub struct Drawing {
     pub title: Vec<u8>,
     pub foot: Vec<u8>,
-}
-
-/// The step of the residuals' axis and the tolerance, in 10^-12 s, and the step of the rates' axis, in parts of 10^15.
-#[derive(Clone, Copy, Debug)]
-pub struct Scale {
-    pub step: u64,
     pub tolerance: u64,
-    pub rate_step: u64,
 }
 
-// The axes of a panel over these days.
-fn sheet_of(days: Days, values: Values) -> Sheet
-    requires from { neg_ℤ (pos (10 ^ 14)) ≤ℤ days.left }
-    requires to { days.left ≤ℤ pos (10 ^ 12) }
-    requires some { 1 ≤ days.step }
-    requires few { days.step ≤ 10 ^ 13 }
-    requires reach { 1 ≤ values.reach }
-    ensures value { result ≡ sheet_of_axes days.left days.step values.reach values.tolerance }
-    ensures sheet { IsSheet result }
+// How much lower a second panel of residuals moves what stands below it.
+fn shift_of(newer: Option<&Panel>) -> u64
+    ensures value { result ≡ shift_by (option_map (λ p. p.now) newer.entry) }
+    ensures few { result ≤ 460 }
 {
-    Sheet {
-        left: days.left * PER_MICRO,
-        wide: i128::from(days.step) * 10 * PER_MICRO,
-        values,
+    match newer {
+        None => 0,
+        Some(_) => 460,
     }
 }
 
 #[tactic(auto, unfolding(crate::specs::Picture::opening))]
-fn push_opening(out: &mut Vec<u8>) -> Result<(), NoMemory>
-    ensures { OnOk result (out.new.items ≡ out.old.items ++ opening) }
+fn push_opening(out: &mut Vec<u8>, height: u64) -> Result<(), NoMemory>
+    ensures { OnOk result (out.new.items ≡ out.old.items ++ opening height) }
 {
-    push_text(out, OPENING)
-}
-
-#[tactic(auto, unfolding(crate::specs::Picture::frames))]
-fn push_frames(out: &mut Vec<u8>) -> Result<(), NoMemory>
-    ensures { OnOk result (out.new.items ≡ out.old.items ++ frames) }
-{
-    push_text(out, FRAMES)
-}
-
-/// How many observations there are and are outside, and the size of the worst residual.
-#[derive(Clone, Copy, Debug)]
-pub struct Counts {
-    pub all: usize,
-    pub outside: usize,
-    pub worst: u128,
-}
-
-// Appends a text and a number.
-fn push_sized(out: &mut Vec<u8>, text: &[u8], number: u128) -> Result<(), NoMemory>
-    ensures { OnOk result (out.new.items ≡ out.old.items ++ (text.now ++ decimal number)) }
-{
-    let mut line = Line::new();
-    line.push_number(number);
-    push_text(out, text)?;
-    push_text(out, line.as_slice())?;
+    push_counted(
+        out,
+        b"<svg xmlns=\"http://www.w3.org/2000/svg\" version=\"1.1\" width=\"1240\" height=\"",
+        height,
+    )?;
+    push_counted(out, b"\" viewBox=\"0 0 1240 ", height)?;
+    push_counted(out, STYLE, height)?;
+    push_text(out, b"\"/>\n")?;
     Ok(())
 }
 
-// Appends the title, and what the observations come to.
-fn push_head(out: &mut Vec<u8>, title: &[u8], counts: Counts) -> Result<(), NoMemory>
-    ensures { OnOk result (out.new.items ≡ out.old.items ++ head_text title.now counts.all counts.outside counts.worst) }
+// A day in millionths, as it is written.
+fn day_of(time: Fixed<12>) -> Fixed<6>
+    requires from { neg_ℤ (pos (10 ^ 22)) ≤ℤ time.units }
+    requires to { time.units ≤ℤ pos (10 ^ 22) }
+    ensures { result.units ≡ micro_of time.units }
+{
+    Fixed {
+        units: micro(time.units),
+    }
+}
+
+// Appends the days from the earliest to the latest one.
+#[tactic(auto, unfolding(crate::specs::Picture::span_text))]
+fn push_span(out: &mut Vec<u8>, points: &[Point]) -> Result<(), NoMemory>
+    ensures { OnOk result (out.new.items ≡ out.old.items ++ span_text points.now) }
+{
+    if points.is_empty() {
+        return Ok(());
+    }
+    let (first, last) = (earliest(points), latest(points));
+    push_valued(out, b", days ", day_of(first), b"")?;
+    push_valued(out, b" to ", day_of(last), b"")?;
+    Ok(())
+}
+
+// Appends the title, how many observations there are, and their days.
+fn push_head(out: &mut Vec<u8>, title: &[u8], points: &[Point]) -> Result<(), NoMemory>
+    ensures { OnOk result (out.new.items ≡ out.old.items ++ head_text title.now points.now) }
 {
     push_named(out, b"<text x=\"120\" y=\"26\" font-size=\"18\">", title)?;
     push_counted(
         out,
         b"</text>\n<text x=\"120\" y=\"46\">",
-        counts.all as u64,
+        points.len() as u64,
     )?;
-    push_counted(out, b" observations, ", counts.outside as u64)?;
-    push_sized(out, b" outside, the worst of ", counts.worst)?;
-    push_text(out, b" ps</text>\n")?;
+    push_text(out, b" observations")?;
+    push_span(out, points)?;
+    push_text(out, b"</text>\n")?;
     Ok(())
-}
-
-#[tactic(auto, unfolding(crate::specs::Picture::band_at))]
-fn push_band_at(out: &mut Vec<u8>, top: Fixed<2>, height: Fixed<2>) -> Result<(), NoMemory>
-    ensures { OnOk result (out.new.items ≡ out.old.items ++ band_at top.units height.units) }
-{
-    push_placed(
-        out,
-        b"<rect class=\"band\" fill=\"#e3f1e8\" fill-opacity=\"0.5\" x=\"120\" width=\"1000\" y=\"",
-        top,
-    )?;
-    push_placed(out, b"\" height=\"", height)?;
-    push_text(out, b"\"/>\n")?;
-    Ok(())
-}
-
-// The place of the band's upper edge.
-fn top_of(values: Values) -> Fixed<2>
-    requires { 1 ≤ values.reach }
-    ensures { result.units ≡ pos 28000 -ℤ band_top_of values.reach values.tolerance }
-{
-    Fixed {
-        units: 28_000 - band_top(values),
-    }
-}
-
-// The height of the band.
-fn height_of(values: Values) -> Fixed<2>
-    requires { 1 ≤ values.reach }
-    ensures { result.units ≡ band_top_of values.reach values.tolerance -ℤ band_bottom_of values.reach values.tolerance }
-{
-    Fixed {
-        units: band_top(values) - band_bottom(values),
-    }
-}
-
-// Appends the band of the tolerance.
-#[tactic(auto, unfolding(crate::specs::Picture::band_text))]
-fn push_band(out: &mut Vec<u8>, values: Values) -> Result<(), NoMemory>
-    requires { 1 ≤ values.reach }
-    ensures { OnOk result (out.new.items ≡ out.old.items ++ band_text values.reach values.tolerance) }
-{
-    push_band_at(out, top_of(values), height_of(values))
 }
 
 #[tactic(auto, unfolding(crate::specs::Picture::foot_text))]
-fn push_foot(out: &mut Vec<u8>, foot: &[u8]) -> Result<(), NoMemory>
-    ensures { OnOk result (out.new.items ≡ out.old.items ++ foot_text foot.now) }
+fn push_foot(out: &mut Vec<u8>, y: u64, foot: &[u8]) -> Result<(), NoMemory>
+    ensures { OnOk result (out.new.items ≡ out.old.items ++ foot_text y foot.now) }
 {
-    push_named(out, b"<text x=\"120\" y=\"992\" font-size=\"11\">", foot)?;
+    push_counted(out, b"<text x=\"120\" font-size=\"11\" y=\"", y)?;
+    push_named(out, b"\">", foot)?;
     push_text(out, b"</text>\n</svg>\n")?;
     Ok(())
 }
 
-// Appends the panel of the residuals.
-#[tactic(auto, unfolding(crate::specs::Picture::residuals_text))]
-fn push_residuals(
+#[tactic(auto, unfolding(crate::specs::Picture::kernel_panel))]
+fn push_kernel(out: &mut Vec<u8>, days: Days, tolerance: u64, panel: &Panel) -> Result<(), NoMemory>
+    requires days { AreDays days }
+    requires few { tolerance ≤ 10 ^ 17 }
+    ensures { OnOk result (out.new.items ≡ out.old.items ++ kernel_panel days tolerance panel.now) }
+{
+    let axes = axes_of(days, 300, tolerance, panel.points());
+    push_residuals(out, b"--kernel", axes, panel)
+}
+
+fn push_newer(
     out: &mut Vec<u8>,
     days: Days,
-    scale: Scale,
-    points: &[Point],
+    tolerance: u64,
+    newer: Option<&Panel>,
 ) -> Result<(), NoMemory>
     requires days { AreDays days }
-    requires scale { IsScale scale }
-    ensures { OnOk result (out.new.items ≡ out.old.items ++ residuals_text days.left days.step scale.step scale.tolerance points.now) }
+    requires few { tolerance ≤ 10 ^ 17 }
+    ensures { OnOk result (out.new.items ≡ out.old.items ++ new_panel days tolerance (option_map (λ p. p.now) newer.entry)) }
 {
-    let values = Values {
-        reach: 5 * scale.step,
-        tolerance: scale.tolerance,
+    let Some(panel) = newer else {
+        return Ok(());
     };
-    push_band(out, values)?;
-    push_levels(out, 480, scale.step)?;
-    push_marks(out, sheet_of(days, values), points)?;
-    Ok(())
-}
-
-// Appends the panel of the rates.
-#[tactic(auto, unfolding(crate::specs::Picture::rates_text))]
-fn push_rates(out: &mut Vec<u8>, days: Days, step: u64, pieces: &[Piece]) -> Result<(), NoMemory>
-    requires days { AreDays days }
-    requires some { 1 ≤ step }
-    requires few { step ≤ 10 ^ 18 }
-    ensures { OnOk result (out.new.items ≡ out.old.items ++ rates_text days.left days.step step pieces.now) }
-{
-    let values = Values {
-        reach: 5 * step,
-        tolerance: 5 * step,
-    };
-    push_levels(out, 940, step)?;
-    push_pieces(out, sheet_of(days, values), pieces)?;
-    Ok(())
-}
-
-// The step of the axis of the rates.
-fn rate_step(pieces: &[Piece]) -> u64
-    ensures step { result ≡ step_of (wanted_of (shown_drift pieces.now) 0) }
-    ensures some { 1 ≤ result }
-    ensures few { result ≤ 10 ^ 18 }
-{
-    let worst = worst_drift(pieces);
-    let shown = if MOST_DRIFT < worst {
-        MOST_DRIFT
-    } else {
-        worst
-    };
-    step_for(shown as u64, 0)
-}
-
-// Appends the panels.
-fn push_panels(
-    out: &mut Vec<u8>,
-    days: Days,
-    scale: Scale,
-    points: &[Point],
-    pieces: &[Piece],
-) -> Result<(), NoMemory>
-    requires days { AreDays days }
-    requires scale { IsScale scale }
-    ensures { OnOk result (out.new.items ≡ out.old.items ++ panels_text days.left days.step scale points.now pieces.now) }
-{
-    push_days(out, days)?;
-    push_frames(out)?;
-    push_rates(out, days, scale.rate_step, pieces)?;
-    push_residuals(out, days, scale, points)?;
-    Ok(())
+    let axes = axes_of(days, 760, tolerance, panel.points());
+    push_residuals(out, b"--new", axes, panel)
 }
 
 // The days of the points.
 fn days_over(points: &[Point]) -> Days
-    ensures left { result.left ≡ day_left (earliest_of points.now) (latest_of points.now) }
-    ensures step { result.step ≡ step_over (micro_of (earliest_of points.now)) (micro_of (latest_of points.now)) }
+    ensures value { result ≡ days_by points.now }
     ensures days { AreDays result }
 {
     days_of(earliest(points).units, latest(points).units)
 }
 
-// What the observations come to.
-fn counts_of(points: &[Point], tolerance: u64) -> Counts
-    ensures all { result.all ≡ length points.now }
-    ensures outside { result.outside ≡ outside_count_of tolerance points.now }
-    ensures worst { result.worst ≡ worst_size_of points.now }
-{
-    Counts {
-        all: points.len(),
-        outside: outside_count(points, tolerance),
-        worst: worst_size(points),
-    }
+/// Where the panels stand: their days, how much lower a second panel moves what stands below it, and the tolerance.
+#[derive(Clone, Copy, Debug)]
+pub struct Layout {
+    pub days: Days,
+    pub shift: u64,
+    pub tolerance: u64,
 }
 
-// The steps that the data want.
-fn scale_of(tolerance: u64, points: &[Point], pieces: &[Piece]) -> Scale
-    requires { tolerance ≤ 10 ^ 17 }
-    ensures value { result ≡ scale_of_data tolerance points.now pieces.now }
-    ensures scale { IsScale result }
+fn layout_of(tolerance: u64, panel: &Panel, newer: Option<&Panel>) -> Layout
+    ensures value { result ≡ layout_by tolerance panel.now (option_map (λ p. p.now) newer.entry) }
+    ensures days { AreDays result.days }
+    ensures few { result.shift ≤ 460 }
+    ensures tolerance { result.tolerance ≡ tolerance }
 {
-    Scale {
-        step: step_for(tolerance, worst_size(points)),
+    Layout {
+        days: days_over(panel.points()),
+        shift: shift_of(newer),
         tolerance,
-        rate_step: rate_step(pieces),
     }
 }
 
-/// The picture of these observations and triples, as one SVG 1.1 document, with a tolerance in 10^-12 s.
+#[tactic(auto, unfolding(crate::specs::Picture::rate_panel))]
+fn push_rate_panel(out: &mut Vec<u8>, days: Days, shift: u64, panel: &Panel) -> Result<(), NoMemory>
+    requires days { AreDays days }
+    requires few { shift ≤ 460 }
+    ensures { OnOk result (out.new.items ≡ out.old.items ++ rate_panel days shift panel.now) }
+{
+    let axes = rate_axes(days, 760 + shift, panel.pieces());
+    push_rates(out, axes, panel.pieces())
+}
+
+// Appends the panels over their days.
+fn push_panels(
+    out: &mut Vec<u8>,
+    layout: Layout,
+    panel: &Panel,
+    newer: Option<&Panel>,
+) -> Result<(), NoMemory>
+    requires days { AreDays layout.days }
+    requires low { layout.shift ≤ 460 }
+    requires few { layout.tolerance ≤ 10 ^ 17 }
+    ensures { OnOk result (out.new.items ≡ out.old.items ++ panels_text layout panel.now (option_map (λ p. p.now) newer.entry)) }
+{
+    push_kernel(out, layout.days, layout.tolerance, panel)?;
+    push_newer(out, layout.days, layout.tolerance, newer)?;
+    push_rate_panel(out, layout.days, layout.shift, panel)?;
+    push_days(out, 985 + layout.shift, layout.days)?;
+    Ok(())
+}
+
+/// The picture of these observations and triples, and of the same observations by a second kernel, as one SVG 1.1
+/// document.
 pub fn picture(
     alloc: Global,
-    words: &Words,
-    tolerance: u64,
-    points: &[Point],
-    pieces: &[Piece],
+    drawing: &Drawing,
+    panel: &Panel,
+    newer: Option<&Panel>,
 ) -> Result<Vec<u8>, NoMemory>
-    requires { tolerance ≤ 10 ^ 17 }
-    ensures { IfOk result (λ text. text.items ≡ picture_of words.now.title.items words.now.foot.items tolerance points.now pieces.now) }
+    requires { drawing.now.tolerance ≤ 10 ^ 17 }
+    ensures { IfOk result (λ text. text.items ≡ picture_of drawing.now.title.items drawing.now.foot.items drawing.now.tolerance panel.now (option_map (λ p. p.now) newer.entry)) }
 {
-    let counts = counts_of(points, tolerance);
-    let scale = scale_of(tolerance, points, pieces);
+    let layout = layout_of(drawing.tolerance, panel, newer);
     let mut out = Vec::new(alloc);
-    push_opening(&mut out)?;
-    push_head(&mut out, words.title.as_slice(), counts)?;
-    push_panels(&mut out, days_over(points), scale, points, pieces)?;
-    push_foot(&mut out, words.foot.as_slice())?;
+    push_opening(&mut out, 1030 + layout.shift)?;
+    push_head(&mut out, drawing.title.as_slice(), panel.points())?;
+    push_panels(&mut out, layout, panel, newer)?;
+    push_foot(&mut out, 1012 + layout.shift, drawing.foot.as_slice())?;
     Ok(out)
 }

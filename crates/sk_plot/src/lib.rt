@@ -7,6 +7,7 @@ mod escape;
 mod extent;
 mod laws;
 mod mark;
+mod panel;
 mod piece;
 mod place;
 mod point;
@@ -14,10 +15,14 @@ mod scale;
 #[cfg(test)]
 mod tests;
 
-pub use document::{Words, picture};
+pub use document::{Drawing, picture};
 pub use escape::push_escaped;
-pub use laws::{escaped_is_harmless, one_mark_each};
+pub use laws::{
+    escaped_is_harmless, greater_is_never_lower, inside_is_in_the_band, one_mark_each,
+    the_axis_has_the_band,
+};
+pub use panel::Axes;
 pub use piece::Piece;
 pub use place::{Sheet, Values, across, band_bottom, band_top, is_inside, is_on, rise};
-pub use point::Point;
+pub use point::{Panel, Point};
 pub use scale::{Days, days_of, round_up, step_for};

@@ -1,6 +1,6 @@
 //! The marks of the observations.
 
-ghost use Rattle.std.specs.Prelude.{◌≡◌, ◌++◌, OnOk, codes};
+ghost use Rattle.std.specs.Prelude.{◌≡◌, ◌++◌, OnOk, codes, decimal};
 ghost use Rattle.sk_decimal.specs.Fixed.{fixed_text};
 ghost use Rattle.sk_plot.specs.Escape.{escaped};
 ghost use Rattle.sk_plot.specs.Picture.{IsSheet, class_of as class_of_value, circle_text, title_text, value_text, off_text, mark_text, marks_text};
@@ -9,13 +9,24 @@ use crate::escape::push_escaped;
 use crate::place::{Sheet, cross_at, is_inside, is_on, level_at};
 use crate::point::Point;
 use sk_checks::NoMemory;
-use sk_decimal::Fixed;
+use sk_decimal::{Fixed, Line};
 
 /// Appends the bytes.
 pub fn push_text(out: &mut Vec<u8>, text: &[u8]) -> Result<(), NoMemory>
     ensures { OnOk result (out.new.items ≡ out.old.items ++ text.now) }
 {
     out.extend_from_slice(text)?;
+    Ok(())
+}
+
+/// Appends a text and a number.
+pub fn push_counted(out: &mut Vec<u8>, text: &[u8], number: u64) -> Result<(), NoMemory>
+    ensures { OnOk result (out.new.items ≡ out.old.items ++ (text.now ++ decimal number)) }
+{
+    let mut line = Line::new();
+    line.push_number(u128::from(number));
+    push_text(out, text)?;
+    push_text(out, line.as_slice())?;
     Ok(())
 }
 
@@ -66,8 +77,8 @@ fn push_value(out: &mut Vec<u8>, value: Fixed<6>) -> Result<(), NoMemory>
     value.print(out)
 }
 
-// The residual in microseconds.
-fn micros(point: &Point) -> Fixed<6>
+/// The residual in microseconds.
+pub fn micros(point: &Point) -> Fixed<6>
     ensures { result.units ≡ point.now.residual }
 {
     Fixed {

@@ -1,11 +1,10 @@
 //! What the triples draw.
 
-ghost use Rattle.std.specs.Prelude.{◌≡◌, ◌++◌, pos, ◌+ℤ◌, OnOk, IfOk, decimal};
-ghost use Rattle.sk_plot.specs.Picture.{IsSheet, style_of as style_of_piece, step_text, rate_text, beginning_text, line_text, is_drawn as is_drawn_of, next_after as next_after_of, piece_text, pieces_text, worst_drift as worst_drift_of};
+ghost use Rattle.std.specs.Prelude.{◌≡◌, ◌≤◌, ◌++◌, pos, OnOk};
+ghost use Rattle.sk_plot.specs.Picture.{IsSheet, style_of as style_of_piece, step_text, rate_text, beginning_text, line_text, is_drawn as is_drawn_of, next_after as next_after_of, drawn_text, lines_text, is_met as is_met_of, met_text, steps_text, drift_size as drift_size_of, worst_drift as worst_drift_of};
 
-use crate::axis::push_counted;
-use crate::mark::{push_placed, push_text, push_valued};
-use crate::place::{Sheet, cross_at, is_within, rate_level_at};
+use crate::mark::{push_counted, push_placed, push_text, push_valued};
+use crate::place::{Sheet, cross_at, is_from_begin, is_up_to_end, is_within, rate_level_at};
 use sk_checks::NoMemory;
 use sk_decimal::Fixed;
 
@@ -67,23 +66,33 @@ fn style_of(piece: Piece) -> &'static [u8]
     }
 }
 
+// Where the line of a triple begins.
+#[derive(Clone, Copy)]
+struct Beginning {
+    across: Fixed<2>,
+    top: u64,
+}
+
 fn push_beginning(
     out: &mut Vec<u8>,
     style: &[u8],
-    from: Fixed<2>,
+    at: Beginning,
     number: u64,
 ) -> Result<(), NoMemory>
-    ensures { OnOk result (out.new.items ≡ out.old.items ++ beginning_text style.now from.units number) }
+    requires { 5 ≤ at.top }
+    ensures { OnOk result (out.new.items ≡ out.old.items ++ beginning_text style.now at.across.units at.top number) }
 {
     push_text(out, b"<path stroke=\"#b85c00\" class=\"")?;
     push_text(out, style)?;
-    push_placed(out, b"\" d=\"M", from)?;
+    push_placed(out, b"\" d=\"M", at.across)?;
+    push_counted(out, b" ", at.top)?;
     push_placed(
         out,
-        b" 75V945\"/>\n<text class=\"number\" fill=\"#b85c00\" x=\"",
-        from,
+        b"v410\"/>\n<text class=\"number\" fill=\"#b85c00\" text-anchor=\"middle\" x=\"",
+        at.across,
     )?;
-    push_counted(out, b"\" y=\"70\" text-anchor=\"middle\">", number)?;
+    push_counted(out, b"\" y=\"", at.top - 5)?;
+    push_counted(out, b"\">", number)?;
     push_text(out, b"</text>\n")?;
     Ok(())
 }
@@ -93,8 +102,11 @@ fn push_line(out: &mut Vec<u8>, sheet: Sheet, piece: Piece) -> Result<(), NoMemo
     requires { IsSheet sheet }
     ensures { OnOk result (out.new.items ≡ out.old.items ++ line_text sheet piece) }
 {
-    let from = cross_at(sheet, piece.from);
-    push_beginning(out, style_of(piece), from, piece.number)
+    let at = Beginning {
+        across: cross_at(sheet, piece.from),
+        top: sheet.values.zero - 205,
+    };
+    push_beginning(out, style_of(piece), at, piece.number)
 }
 
 fn is_drawn(sheet: Sheet, next: Fixed<2>, piece: Piece) -> bool
@@ -117,37 +129,78 @@ fn next_after(sheet: Sheet, next: Fixed<2>, piece: Piece) -> Fixed<2>
     }
 }
 
-fn push_piece(out: &mut Vec<u8>, sheet: Sheet, next: Fixed<2>, piece: Piece) -> Result<(), NoMemory>
+fn push_drawn(out: &mut Vec<u8>, sheet: Sheet, next: Fixed<2>, piece: Piece) -> Result<(), NoMemory>
     requires { IsSheet sheet }
-    ensures { OnOk result (out.new.items ≡ out.old.items ++ piece_text sheet next.units piece) }
+    ensures { OnOk result (out.new.items ≡ out.old.items ++ drawn_text sheet next.units piece) }
 {
-    push_rate(out, sheet, piece)?;
     if is_drawn(sheet, next, piece) {
         push_line(out, sheet, piece)?;
     }
     Ok(())
 }
 
-/// Appends what the triples draw, in order: the step of the rate, and a line where there is room for its number.
-pub fn push_pieces(out: &mut Vec<u8>, sheet: Sheet, pieces: &[Piece]) -> Result<(), NoMemory>
+/// Appends the lines at which triples begin, in order, where there is room for their numbers.
+pub fn push_lines(out: &mut Vec<u8>, sheet: Sheet, pieces: &[Piece]) -> Result<(), NoMemory>
     requires { IsSheet sheet }
-    ensures { OnOk result (out.new.items ≡ out.old.items ++ pieces_text sheet (pos 0) pieces.now) }
+    ensures { OnOk result (out.new.items ≡ out.old.items ++ lines_text sheet (pos 0) pieces.now) }
 {
     let mut next = Fixed { units: 0 };
     for piece in pieces {
-        push_piece(out, sheet, next, *piece)?;
+        push_drawn(out, sheet, next, *piece)?;
         next = next_after(sheet, next, *piece);
     }
     Ok(())
 }
 
-/// The size of the greatest difference of rates, in parts of 10^15.
-pub fn worst_drift(pieces: &[Piece]) -> u128
-    ensures { result ≡ worst_drift_of pieces.now }
+// Whether the piece holds at some time of the axis.
+fn is_met(sheet: Sheet, piece: Piece) -> bool
+    requires { IsSheet sheet }
+    ensures { result ≡ is_met_of sheet piece }
+{
+    is_up_to_end(sheet, piece.from) && is_from_begin(sheet, piece.to)
+}
+
+fn push_met(out: &mut Vec<u8>, sheet: Sheet, piece: Piece) -> Result<(), NoMemory>
+    requires { IsSheet sheet }
+    ensures { OnOk result (out.new.items ≡ out.old.items ++ met_text sheet piece) }
+{
+    if is_met(sheet, piece) {
+        push_rate(out, sheet, piece)?;
+    }
+    Ok(())
+}
+
+/// Appends the steps of the rates that hold within the axis, in order.
+pub fn push_steps(out: &mut Vec<u8>, sheet: Sheet, pieces: &[Piece]) -> Result<(), NoMemory>
+    requires { IsSheet sheet }
+    ensures { OnOk result (out.new.items ≡ out.old.items ++ steps_text sheet pieces.now) }
+{
+    for piece in pieces {
+        push_met(out, sheet, *piece)?;
+    }
+    Ok(())
+}
+
+// What a piece asks of the axis of the rates.
+fn drift_size(sheet: Sheet, piece: Piece) -> u128
+    requires { IsSheet sheet }
+    ensures { result ≡ drift_size_of sheet piece }
+{
+    if is_met(sheet, piece) {
+        piece.drift.units.unsigned_abs()
+    } else {
+        0
+    }
+}
+
+/// The size of the greatest difference of rates within the axis, in parts of 10^15.
+pub fn worst_drift(sheet: Sheet, pieces: &[Piece]) -> u128
+    requires { IsSheet sheet }
+    ensures { result ≡ worst_drift_of sheet pieces.now }
 {
     let mut worst = 0;
     for piece in pieces {
-        let size = piece.drift.units.unsigned_abs();
+        let size = drift_size(sheet, *piece);
         if worst < size {
             worst = size;
         }

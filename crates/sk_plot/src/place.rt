@@ -1,15 +1,17 @@
 //! Where a value is drawn, in hundredths of a unit.
 
 ghost use Rattle.std.specs.Int.{int_min};
-ghost use Rattle.std.specs.Prelude.{◌≡◌, ◌⊎◌, ◌≤◌, ◌^◌, pos, neg_ℤ, ◌+ℤ◌, ◌-ℤ◌, ◌≤ℤ◌};
+ghost use Rattle.std.specs.Prelude.{◌≡◌, ◌⊎◌, ◌≤◌, ◌^◌, pos, neg_ℤ, ◌+ℤ◌, ◌-ℤ◌, ◌≤ℤ◌, int_le};
 ghost use Rattle.sk_plot.specs.Place.{scaled as scaled_of, rise_of, rise_above as rise_above_of, rise_below as rise_below_of, rise_up_to as rise_up_to_of, under_band as under_band_of, band_top as band_top_of, band_bottom as band_bottom_of, held_of, share_of, across_of, is_inside as is_inside_of, is_on as is_on_of};
-ghost use Rattle.sk_plot.specs.Picture.{IsSheet, cross_at as cross_at_of, level_at as level_at_of, rate_level_at as rate_level_of, is_within as is_within_of};
+ghost use Rattle.sk_plot.specs.Picture.{IsSheet, cross_at as cross_at_of, level_at as level_at_of, is_within as is_within_of};
 
 use sk_decimal::{Fixed, floor_div};
 
-/// The axis of values: it reaches so far above 0 and below, and the band of the tolerance lies about 0.
+/// The axis of values: its line of 0 stands so many units below the picture's upper edge, it reaches so far above 0 and
+/// below, and the band of the tolerance lies about 0.
 #[derive(Clone, Copy, Debug)]
 pub struct Values {
+    pub zero: u64,
     pub reach: u64,
     pub tolerance: u64,
 }
@@ -215,6 +217,21 @@ pub fn cross_at(sheet: Sheet, time: Fixed<12>) -> Fixed<2>
     }
 }
 
+/// Whether the time is not after the axis.
+pub fn is_up_to_end(sheet: Sheet, time: Fixed<12>) -> bool
+    requires { IsSheet sheet }
+    ensures { result ≡ int_le time.units (sheet.left +ℤ sheet.wide) }
+{
+    time.units <= sheet.left + sheet.wide
+}
+
+/// Whether the time is not before the axis.
+pub fn is_from_begin(sheet: Sheet, time: Fixed<12>) -> bool
+    ensures { result ≡ int_le sheet.left time.units }
+{
+    sheet.left <= time.units
+}
+
 /// Whether the time is on the axis.
 pub fn is_within(sheet: Sheet, time: Fixed<12>) -> bool
     requires { IsSheet sheet }
@@ -223,24 +240,24 @@ pub fn is_within(sheet: Sheet, time: Fixed<12>) -> bool
     sheet.left <= time.units && time.units <= sheet.left + sheet.wide
 }
 
-/// The place of a difference of rates from the upper edge of the picture, in the panel of the rates.
-#[tactic(auto, unfolding(crate::specs::Picture::rate_level_at))]
+/// The place of a difference of rates from the upper edge of the picture.
+#[tactic(auto, unfolding(crate::specs::Picture::level_at))]
 pub fn rate_level_at(sheet: Sheet, value: Fixed<6>) -> Fixed<2>
     requires { IsSheet sheet }
-    ensures { result.units ≡ rate_level_of sheet value.units }
+    ensures { result.units ≡ level_at_of sheet value.units }
 {
     Fixed {
-        units: 74_000 - rise(sheet.values, value.units),
+        units: i128::from(100 * sheet.values.zero) - rise(sheet.values, value.units),
     }
 }
 
-/// The place of a value from the upper edge of the picture, in the panel of the residuals.
+/// The place of a residual from the upper edge of the picture.
 #[tactic(auto, unfolding(crate::specs::Picture::level_at))]
 pub fn level_at(sheet: Sheet, value: Fixed<12>) -> Fixed<2>
     requires { IsSheet sheet }
     ensures { result.units ≡ level_at_of sheet value.units }
 {
     Fixed {
-        units: 28_000 - rise(sheet.values, value.units),
+        units: i128::from(100 * sheet.values.zero) - rise(sheet.values, value.units),
     }
 }

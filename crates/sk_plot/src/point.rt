@@ -1,3 +1,4 @@
+use crate::piece::Piece;
 use sk_decimal::Fixed;
 use std::marker::Model;
 
@@ -19,4 +20,37 @@ impl Model for Point {
     ghost view = { λ p. record { id = p.id.items; clock = p.clock.items; time = p.time.units; residual = p.residual.units } };
 
     ghost invariant = { λ p. IsPoint (record { id = p.id.items; clock = p.clock.items; time = p.time.units; residual = p.residual.units }) };
+}
+
+/// The observations and the triples of a kernel as they are drawn.
+#[derive(Drop)]
+pub struct Panel {
+    pub points: Vec<Point>,
+    pub pieces: Vec<Piece>,
+}
+
+impl Model for Panel {
+    ghost use Rattle.sk_plot.specs.Point.{PanelView};
+
+    ghost Value = { PanelView };
+
+    ghost view = { λ p. record { points = p.points.items; pieces = p.pieces.items } };
+}
+
+impl Panel {
+    ghost use Rattle.std.specs.Prelude.{◌≡◌};
+
+    /// The observations, in order.
+    pub fn points(&self) -> &[Point]
+        ensures { result.now ≡ self.now.points }
+    {
+        self.points.as_slice()
+    }
+
+    /// The triples, in order.
+    pub fn pieces(&self) -> &[Piece]
+        ensures { result.now ≡ self.now.pieces }
+    {
+        self.pieces.as_slice()
+    }
 }

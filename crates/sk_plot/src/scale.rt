@@ -67,8 +67,8 @@ pub struct Days {
     pub step: u64,
 }
 
-// The millionths of a day that have passed at a time, floored.
-fn micro(time: i128) -> i128
+/// The millionths of a day that have passed at a time, floored.
+pub fn micro(time: i128) -> i128
     requires from { neg_ℤ (pos (10 ^ 22)) ≤ℤ time }
     requires to { time ≤ℤ pos (10 ^ 22) }
     ensures value { result ≡ micro_of time }

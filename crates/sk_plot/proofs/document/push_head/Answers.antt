@@ -4,4 +4,4 @@ use Rattle.sk_plot.proofs.document.push_head.Goals as goal
 
 pub returns : goal.returns
 unfolding head_text
-returns c = five _ _ _ _ _ _ _ _ _ _ _ c.in_ok-push_named.ensures c.in_ok-push_counted.ensures c.in_ok-push_counted-2.ensures c.in_ok-push_sized.ensures c.in_ok-push_text.ensures
+returns c = five _ _ _ _ _ _ _ _ _ _ _ c.in_ok-push_named.ensures c.in_ok-push_counted.ensures c.in_ok-push_text.ensures c.in_ok-push_span.ensures c.in_ok-push_text-2.ensures

@@ -4,4 +4,4 @@ use Rattle.sk_plot.proofs.document.push_panels.Goals as goal
 
 pub returns : goal.returns
 unfolding panels_text
-returns c = four _ _ _ _ _ _ _ _ _ c.in_ok-push_days.ensures c.in_ok-push_frames.ensures c.in_ok-push_rates.ensures c.in_ok-push_residuals.ensures
+returns c = four _ _ _ _ _ _ _ _ _ c.in_ok-push_kernel.ensures c.in_ok-push_newer.ensures c.in_ok-push_rate_panel.ensures c.in_ok-push_days.ensures
