@@ -24,3 +24,4 @@ pub mod Placing
 pub mod Kept
 pub mod NewTriples
 pub mod OldNumber
+pub mod Over

@@ -11,6 +11,7 @@ ghost use Rattle.sk_fit.specs.Given.{AreSettings, ArePlaced, new_triples_of};
 ghost use Rattle.sk_fit.specs.State.{fresh};
 ghost use Rattle.sk_fit.specs.Fitted.{IsFitted, IsChainOf, StopsAt, is_new_tick, AreOldTicks, IsNewTick};
 ghost use Rattle.sk_fit.specs.Context.{terms};
+ghost use Rattle.sk_fit.specs.Over.{IsChainOver};
 ghost use Rattle.sk_fit.specs.Causes.{Gives, Refuses, input};
 ghost use Rattle.sk_fit.specs.declared.fault.FitFault.{FitFault as Fault};
 ghost use Rattle.sk_fit.specs.declared.chain.Chain.{Chain as Published};
@@ -132,6 +133,7 @@ pub fn fit(
     ensures ok { IfOk result (Gives (input triples.now clock.now observations.now settings.now)) }
     // Its places are those of what is covered, and old and new triples are those of a kernel.
     ensures placed { IfOk result (λ c. ArePlaced c.first_new (sights observations.now) c.dropped c.segments) }
+    ensures over { IfOk result (IsChainOver (length observations.now)) }
     ensures triples { IfOk result (λ c. AreTriples triples.now.total (triples.now.triples ++ new_triples_of c)) }
     // What is refused has this cause.
     ensures fault { IfErr result (λ f. (f ≡ FitFault.NoMemory) ⊎ Refuses (input triples.now clock.now observations.now settings.now) observations.now f) }

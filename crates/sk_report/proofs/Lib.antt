@@ -3,6 +3,5 @@ pub mod Ranges
 pub mod RowLines
 pub mod Lasts
 pub mod MarkLemmas
-pub mod Published
 pub mod TextLines
 pub mod OneLine

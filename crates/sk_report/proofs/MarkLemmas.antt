@@ -15,7 +15,7 @@ use Rattle.sk_fit.specs.declared.chain.Chain.{Chain}
 use Rattle.sk_fit.specs.declared.chain.Segment.{Segment}
 use Rattle.sk_fit.specs.declared.chain.End.{End}
 use Rattle.sk_fit.specs.Given.{chain_view, segment_view}
-use Rattle.sk_report.specs.Report.{IsEndWithin, IsSegmentWithin, IsChainOver}
+use Rattle.sk_fit.specs.Over.{IsEndOver, IsSegmentWithin, IsChainOver}
 use Rattle.sk_report.specs.declared.marks.Marks.{Marks}
 use Rattle.sk_report.specs.Marks.{AreOver, Tells, end_words}
 use Rattle.sk_report.specs.Ends.{IsMarked, AreEnds, leaves, marked_end}
@@ -150,7 +150,7 @@ found_all P f (x ∷ xs) all = by (f x) (found_all P f xs all.1)
     by true rest = all.0
     by false rest = rest
 
-ended_within : (count : ℕ) (o : Option Segment) → IfSome o (IsSegmentWithin count) → IfSome (ended_of o) (IsEndWithin count)
+ended_within : (count : ℕ) (o : Option Segment) → IfSome o (IsSegmentWithin count) → IfSome (ended_of o) (IsEndOver count)
 ended_within count None within = tt
 ended_within count (Some s) within = within.ended
 
@@ -170,7 +170,7 @@ words_of rows listed (Some s) = refl
 module _ (rows : List RowView) (chain : Chain) (m : Marks) (first : m.first_new ≡ chain.first_new) (dropped : length m.dropped.items ≡ length rows) (ends : length m.ends.items ≡ length rows)
     (marked : IsMarked chain.dropped m.dropped.items) (ended : AreEnds rows chain.dropped chain.segments m.ends.items) where
   pub are_over : IsChainOver (length rows) chain → AreOver (length rows) m
-  are_over over = λ place less. subst (λ (o : Option End). IfSome o (IsEndWithin (length rows))) (sym (ended place less))
+  are_over over = λ place less. subst (λ (o : Option End). IfSome o (IsEndOver (length rows))) (sym (ended place less))
       (ended_within (length rows) (find (leaves rows chain.dropped place) chain.segments) (found_all (IsSegmentWithin (length rows)) (leaves rows chain.dropped place) chain.segments over.within))
 
   pub they_tell : (place : ℕ) → place < length rows → Tells rows (Some (chain_view (sights rows) chain)) m place

@@ -6,11 +6,11 @@ use Rattle.sk_publishing.specs.Table.{ChainView, end_text, end_field, kind_text}
 use Rattle.sk_fit.specs.declared.chain.End.{End}
 use Rattle.sk_fit.specs.Given.{end_view}
 use Rattle.sk_report.specs.declared.marks.Marks.{Marks}
-use Rattle.sk_report.specs.Report.{IsEndWithin}
+use Rattle.sk_fit.specs.Over.{IsEndOver}
 
 -- the ends at the places of so many observations are over these
 abbrev pub AreOver : ℕ → Marks → Type 0
-AreOver count m = (place : ℕ) → place < count → IfSome (slice_index_or m.ends.items place None) (IsEndWithin count)
+AreOver count m = (place : ℕ) → place < count → IfSome (slice_index_or m.ends.items place None) (IsEndOver count)
 
 -- the words of an end, where there is one
 abbrev pub end_words : List RowView → Option End → List ℕ

@@ -9,7 +9,8 @@ ghost use Rattle.sk_publishing.specs.Terms.{sights};
 ghost use Rattle.sk_fit.specs.Given.{chain_view};
 ghost use Rattle.sk_report.specs.Marks.{AreOver, Tells};
 ghost use Rattle.sk_report.specs.Line.{IsLined, fields_of};
-ghost use Rattle.sk_report.specs.Report.{IsChainOver, table_checks, table_of};
+ghost use Rattle.sk_fit.specs.Over.{IsChainOver};
+ghost use Rattle.sk_report.specs.Report.{table_checks, table_of};
 
 use crate::fault::ReportFault;
 use crate::line::write_line;

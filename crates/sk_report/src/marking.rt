@@ -5,7 +5,7 @@ ghost use Rattle.std.specs.List.{AllByRecursion};
 ghost use Rattle.sk_publishing.specs.Row.{RowView};
 ghost use Rattle.sk_publishing.specs.Terms.{sights};
 ghost use Rattle.sk_fit.specs.Given.{chain_view};
-ghost use Rattle.sk_report.specs.Report.{IsChainOver, IsSegmentWithin};
+ghost use Rattle.sk_fit.specs.Over.{IsChainOver, IsSegmentWithin};
 ghost use Rattle.sk_report.specs.Marks.{AreOver, Tells};
 ghost use Rattle.sk_report.specs.Ends.{IsMarked, AreEnds, marked_end};
 

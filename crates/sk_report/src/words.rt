@@ -3,7 +3,7 @@
 ghost use Rattle.std.specs.Prelude.{◌≡◌, ◌<◌, length, false, None, slice_index_or};
 ghost use Rattle.sk_publishing.specs.Table.{end_text as end_text_of};
 ghost use Rattle.sk_fit.specs.Given.{end_view};
-ghost use Rattle.sk_report.specs.Report.{IsEndWithin};
+ghost use Rattle.sk_fit.specs.Over.{IsEndOver};
 ghost use Rattle.sk_report.specs.Marks.{AreOver, end_words, kind_word};
 
 use crate::marks::Marks;
@@ -13,7 +13,7 @@ use sk_obs::Observation;
 
 // The words of an end.
 fn end_text(observations: &[Observation], ended: End) -> Line
-    requires { IsEndWithin (length observations.now) ended }
+    requires { IsEndOver (length observations.now) ended }
     ensures { result ≡ end_text_of observations.now (end_view ended) }
 {
     let mut text = Line::new();

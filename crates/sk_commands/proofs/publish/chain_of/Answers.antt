@@ -1,20 +1,12 @@
 use Rattle.std.proofs.Common.{◌≡◌, List, refl, sym, subst, ⊎_elim, rules}
-use Rattle.sk_clock.specs.Clock.{total}
-use Rattle.sk_publishing.specs.Row.{RowView, AreRows}
+use Rattle.sk_publishing.specs.Row.{RowView}
 use Rattle.sk_fit.specs.Causes.{Refuses, input}
 use Rattle.sk_fit.specs.declared.fault.FitFault.TheVariants.{NoMemory}
 use Rattle.sk_fit.specs.declared.settings.Settings.{Settings}
-use Rattle.sk_report.proofs.Published.{chain_over}
 use Rattle.sk_words.specs.Asked.{options_in}
 use Rattle.sk_outcome.specs.Files.{KernelRead}
 use Rattle.sk_outcome.specs.Output.{settings_of}
 use Rattle.sk_commands.proofs.publish.chain_of.Goals as goal
-
-pub returns-in-Ok-clause-over : goal.returns-in-Ok-clause-over
-returns-in-Ok-clause-over c =
-    let rows : List RowView = c.args.observations.now in
-    let are : AreRows (total c.kernel.inside.clock) rows = subst (λ (k : KernelRead). AreRows (total k.clock) rows) (sym c.kernel.view_is) c.requires in
-    chain_over c.kernel.inside.triples c.kernel.inside.clock rows c.settings_of-settings.result c.in-Ok.chain are c.in-Ok.ensures.ok c.in-Ok.ensures.placed
 
 pub returns-in-Err : goal.returns-in-Err
 returns-in-Err c =

@@ -5,10 +5,15 @@ use Rattle.sk_fit.specs.declared.chain.Chain.{Chain}
 use Rattle.sk_fit.specs.declared.fault.FitFault.{FitFault}
 use Rattle.sk_fit.specs.Causes.{input}
 use Rattle.sk_fit.proofs.OneAnswer.{gives_unrefused, one_refusal}
+use Rattle.sk_fit.proofs.Over.{chain_over}
 use Rattle.sk_fit.proofs.publication.fit.Goals as goal
 
 abbrev refused : FitFault → Result Chain FitFault
 refused fault = Err fault
+
+pub returns-in-Ok-clause-over : goal.returns-in-Ok-clause-over
+returns-in-Ok-clause-over c =
+    chain_over c.args.triples.now c.args.clock.now c.args.observations.now c.args.settings.now c.in-Ok.chain c.requires.observations c.in-Ok.ensures.ok c.in-Ok.ensures.placed
 
 pub returns-in-Ok-clause-refused : goal.returns-in-Ok-clause-refused
 returns-in-Ok-clause-refused c fault r =

@@ -4,7 +4,7 @@ use Rattle.std.specs.Prelude.{pos}
 use Rattle.sk_fit.specs.declared.chain.Segment.{Segment}
 use Rattle.sk_fit.specs.declared.chain.End.{End}
 use Rattle.sk_fit.specs.declared.chain.End.TheVariants.{Last}
-use Rattle.sk_report.specs.Report.{IsSegmentWithin}
+use Rattle.sk_fit.specs.Over.{IsSegmentWithin}
 use Rattle.sk_report.specs.Ends.{AreEnds}
 use Rattle.sk_report.proofs.MarkLemmas.{ends_more, all_at, length-marked_end}
 use Rattle.sk_report.proofs.marking.mark_ends.Goals as goal

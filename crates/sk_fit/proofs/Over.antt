@@ -22,7 +22,7 @@ use Rattle.sk_fit.specs.Causes.{Gives, input}
 use Rattle.sk_fit.proofs.Kept.{Ordered, Across, ordered_split, kept_all, kept_ordered}
 use Rattle.sk_fit.proofs.Observed.{from_place, all_sights}
 use Rattle.sk_fit.proofs.OldNumber.{olds_within, olds_before}
-use Rattle.sk_report.specs.Report.{IsEndWithin, IsSegmentWithin, FollowOn, IsChainOver}
+use Rattle.sk_fit.specs.Over.{IsEndOver, IsSegmentWithin, FollowOn, IsChainOver}
 
 -- the place is smaller
 abbrev Earlier : Sight → Sight → Type 0
@@ -48,13 +48,13 @@ last_found P o (x ∷ os) h w =
 -- ---- ends
 
 module _ (count : ℕ) where
-  unblocked : (e : End) → ((low high : ℕ) → end_view e ≢ BlockedEnd low high) → IsEndWithin count e
+  unblocked : (e : End) → ((low high : ℕ) → end_view e ≢ BlockedEnd low high) → IsEndOver count e
   unblocked Last h = tt
   unblocked Partition h = tt
   unblocked Fixed h = tt
   unblocked (Blocked low high) h = absurd (h low high refl)
 
-  blocked : (e : End) (low high : ℕ) → end_view e ≡ BlockedEnd low high → low < count → high < count → IsEndWithin count e
+  blocked : (e : End) (low high : ℕ) → end_view e ≡ BlockedEnd low high → low < count → high < count → IsEndOver count e
   blocked Last low high e p q = tt
   blocked Partition low high e p q = tt
   blocked Fixed low high e p q = tt
@@ -63,13 +63,13 @@ module _ (count : ℕ) where
       let same' : h ≡ high = cc in
       (omega arith, omega arith)
 
-  last_end : (e : End) → end_view e ≡ LastEnd → IsEndWithin count e
+  last_end : (e : End) → end_view e ≡ LastEnd → IsEndOver count e
   last_end e h = unblocked e (λ low high b. (let c : LastEnd ≡ BlockedEnd low high = sym h ∙ b in cc))
 
-  partition_end : (e : End) → end_view e ≡ PartitionEnd → IsEndWithin count e
+  partition_end : (e : End) → end_view e ≡ PartitionEnd → IsEndOver count e
   partition_end e h = unblocked e (λ low high b. (let c : PartitionEnd ≡ BlockedEnd low high = sym h ∙ b in cc))
 
-  fixed_end : (e : End) → end_view e ≡ FixedEnd → IsEndWithin count e
+  fixed_end : (e : End) → end_view e ≡ FixedEnd → IsEndOver count e
   fixed_end e h = unblocked e (λ low high b. (let c : FixedEnd ≡ BlockedEnd low high = sym h ∙ b in cc))
 
 -- ---- places
@@ -84,24 +84,24 @@ module _ (t : Terms) (k count : ℕ) (within : k ≤ count) (all : List Sight) (
   view s = segment_view all dropped s
 
   ends_anyhow : (Within : Terms → SegmentView → Sight → Type 0) (s : Segment) (next : List Sight) → AllByRecursion (IsAmong k count) next
-      → ((o : Sight) → IsAmong k count o → Within t (view s) o → IsEndWithin count s.ended) → IsEnded Within t (view s) (first_or next None) → IsEndWithin count s.ended
+      → ((o : Sight) → IsAmong k count o → Within t (view s) o → IsEndOver count s.ended) → IsEnded Within t (view s) (first_or next None) → IsEndOver count s.ended
   ends_anyhow Within s [] among told h = last_end count s.ended h
   ends_anyhow Within s (o ∷ next) among told h = elim (eqb_tells (partition_at t o.tick) (partition_at t (view s).anchor.ticks)) [
     | inl w ↦ told o among.0 (h.0 w.1)
     | inr w ↦ partition_end count s.ended (h.1 w.1)
   ]
 
-  ends_fixed : (s : Segment) (next : List Sight) → AllByRecursion (IsAmong k count) next → IsEnded IsFixed t (view s) (first_or next None) → IsEndWithin count s.ended
+  ends_fixed : (s : Segment) (next : List Sight) → AllByRecursion (IsAmong k count) next → IsEnded IsFixed t (view s) (first_or next None) → IsEndOver count s.ended
   ends_fixed s next among h = ends_anyhow IsFixed s next among (λ o a e. fixed_end count s.ended e) h
 
   one_of : (run front back : List Sight) (o : Sight) → run ≡ front ++ o ∷ back → AllByRecursion (IsAmong k count) run → IsAmong k count o
   one_of run front back o e h = (all_back (IsAmong k count) front (o ∷ back) (subst (AllByRecursion (IsAmong k count)) e h)).0
 
   ends_blocked : (s : Segment) (next : List Sight) → AllByRecursion (IsAmong k count) (view s).covered → AllByRecursion (IsAmong k count) next
-      → IsEnded IsBlocked t (view s) (first_or next None) → IsEndWithin count s.ended
+      → IsEnded IsBlocked t (view s) (first_or next None) → IsEndOver count s.ended
   ends_blocked s next own among h = ends_anyhow IsBlocked s next among told h
     where
-      told : (o : Sight) → IsAmong k count o → IsBlocked t (view s) o → IsEndWithin count s.ended
+      told : (o : Sight) → IsAmong k count o → IsBlocked t (view s) o → IsEndOver count s.ended
       told o a b =
           let run : AllByRecursion (IsAmong k count) ((view s).covered ++ o ∷ []) = all_append (IsAmong k count) (view s).covered (o ∷ []) own (a, tt) in
           let low = one_of ((view s).covered ++ o ∷ []) b.is_low.front b.is_low.back b.low b.is_low.joined run in
