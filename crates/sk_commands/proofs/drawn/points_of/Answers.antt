@@ -30,8 +30,8 @@ loop-observation-preserved c =
     let k : KernelView = kernel_view 12 c.args.clock.now triples.triples in
     record {
       none = subst (λ (rs : List RowView). NoneRefuses (table_checks triples rs)) (sym (take_next rows i row less c.observation-item.is))
-          (checks_more triples (take i rows) row c.loop-observation.invariant.none c.in-Ok.ensures.0);
-      points = c.in_default.ensures ∙ ap (λ (ps : List PointView). ps ++ c.in-Ok.point ∷ []) c.loop-observation.invariant.points
-          ∙ ap (λ (p : PointView). points_of k (take i rows) ++ p ∷ []) c.in-Ok.ensures.1
+          (checks_more triples (take i rows) row c.loop-observation.invariant.none c.in-Ok-point_of.ensures.0);
+      points = c.in-Ok-push.ensures.items ∙ ap (λ (ps : List PointView). ps ++ c.in-Ok-point_of.point ∷ []) c.loop-observation.invariant.points
+          ∙ ap (λ (p : PointView). points_of k (take i rows) ++ p ∷ []) c.in-Ok-point_of.ensures.1
           ∙ sym (points_more k rows i row less c.observation-item.is);
     }
