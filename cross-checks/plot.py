@@ -2,16 +2,18 @@
 """Pictures of random publications, in every byte, and by a second kernel too; each is well-formed XML.
 
 Where a mark, a line, a step or a label stands is computed here from docs/PLOT.md, in whole numbers and fractions, and so are
-the residuals. Where xmllint is installed it reads the pictures as well, and where rsvg-convert is it renders them.
+the residuals. Each picture, and each of examples/, is read as XML, by xmllint too where it is installed. The first ones are
+rendered to PNG by the first renderer that is installed.
 """
 import shutil
 import subprocess
 import sys
-from fractions import Fraction
+import tempfile
 from math import floor
+from pathlib import Path
 from xml.parsers import expat
 
-from common import PICO, kernel_text, main, table
+from common import PICO, main
 from headline import Kernel, triples
 from publications import publications
 
@@ -176,17 +178,63 @@ def wanted(case, options, newer):
     return picture(title, VERSION + foot, case.settings.tol_ns * 1000, first, second)
 
 
-def renders(text):
-    """Whether the tools that are installed read it."""
-    for tool in (["xmllint", "--noout", "-"], ["rsvg-convert", "--output=/dev/null", "-"]):
-        if shutil.which(tool[0]):
-            if subprocess.run(tool, input=text.encode(), stdout=subprocess.DEVNULL, stderr=subprocess.DEVNULL).returncode:
-                return False
-    return True
+def ends_well(words):
+    try:
+        return not subprocess.run(words, stdin=subprocess.DEVNULL, capture_output=True, timeout=120).returncode
+    except (OSError, subprocess.TimeoutExpired):
+        return False
+
+
+class Reader:
+    """Reads pictures as XML, by Python and by xmllint, and renders the first ones, by the tools that are installed."""
+
+    RENDERED = 5
+    RENDERERS = {
+        "rsvg-convert": ("--output={png}", "{svg}"),
+        "inkscape": ("--export-type=png", "--export-filename={png}", "{svg}"),
+        "magick": ("{svg}", "{png}"),
+        "convert": ("{svg}", "{png}"),
+    }
+
+    def __init__(self):
+        self.lint = shutil.which("xmllint")
+        self.renderer = next((tool for tool in self.RENDERERS if ends_well([tool, "--version"])), None)
+        self.rendered = 0
+
+    def fault(self, picture):
+        """What is wrong with a picture, in bytes; None where nothing is."""
+        try:
+            expat.ParserCreate().Parse(picture, True)
+        except expat.ExpatError as error:
+            return f"it is not well-formed: {error}"
+        with tempfile.TemporaryDirectory() as room:
+            svg, png = Path(room) / "picture.svg", Path(room) / "picture.png"
+            svg.write_bytes(picture)
+            if self.lint and not ends_well([self.lint, "--noout", str(svg)]):
+                return "xmllint does not read it"
+            if self.renderer and self.rendered < self.RENDERED:
+                self.rendered += 1
+                words = [word.format(svg=svg, png=png) for word in self.RENDERERS[self.renderer]]
+                if not ends_well([self.renderer, *words]) or not png.read_bytes().startswith(b"\x89PNG"):
+                    return f"{self.renderer} does not render it"
+        return None
+
+    def told(self):
+        lint = "read by xmllint" if self.lint else "xmllint is not installed"
+        tools = f"{self.rendered} rendered by {self.renderer}" if self.renderer else "no renderer is installed: none rendered"
+        return f"{lint}, {tools}"
+
+
+def read_examples(reader):
+    for path in sorted((Path(__file__).resolve().parent.parent / "examples").glob("*.svg")):
+        fault = reader.fault(path.read_bytes())
+        if fault:
+            sys.exit(f"{path}: {fault}")
 
 
 def check(program):
-    cases, marks, both = publications(1, 120), 0, 0
+    reader, cases, marks, both = Reader(), publications(1, 120), 0, 0
+    read_examples(reader)
     published = program.calls(case.asked() for case in cases)
     asked = []
     for case, kernel in zip(cases, published):
@@ -203,12 +251,12 @@ def check(program):
         newer = triples(options["new"], case.clock.number) if "new" in options else None
         if answer.done().out != wanted(case, options, newer):
             answer.differs("another picture is wanted:\n" + wanted(case, options, newer))
-        expat.ParserCreate().Parse(answer.out.encode("latin-1"), True)
-        if not renders(answer.out):
-            answer.differs("a tool does not read it")
+        fault = reader.fault(answer.out.encode("latin-1"))
+        if fault:
+            answer.differs(fault)
         marks += len(case.observations) * (2 if newer else 1)
         both += bool(newer)
-    return f"{len(cases)} pictures, {both} of them by two kernels, {marks} marks"
+    return f"{len(cases)} pictures, {both} of them by two kernels, {marks} marks; {reader.told()}"
 
 
 def sample():

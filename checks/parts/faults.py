@@ -24,6 +24,7 @@ COMMANDS = {  # each command, and what it writes by the files of texts.py where 
     "excerpt": ("excerpt --kernel=k --over=k --sc=99 --from=0 --to=600", None),
     "audit": (texts.AUDIT, b"yes\n"),
     "least": ("least --leap=l --kernel=k --obs=o --sc=99", None),
+    "plot": ("plot --leap=l --kernel=k --obs=o --sc=99 --new=k", None),
     "help": ("help", None),
     "version": ("--version", None),
 }

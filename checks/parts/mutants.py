@@ -29,13 +29,13 @@ BATCH = 500  # mutants that one process makes at a time
 HANG = 20  # seconds
 MOST = 2**26  # bytes that are read of what a run wrote
 KINDS = {"k": 42, "o": 42, "n": 6, "l": 6, "words": 4}  # what is mutated, and how often
-COMMANDS = ("publish", "residuals", "normal", "convert", "invert", "excerpt", "least", "audit")
+COMMANDS = ("publish", "residuals", "normal", "convert", "invert", "excerpt", "least", "audit", "plot")
 WEIGHTS = {
-    "k": (48, 8, 28, 4, 4, 4, 4, 0),
-    "o": (66, 24, 0, 0, 0, 0, 10, 0),
-    "n": (0, 0, 0, 0, 0, 0, 0, 1),
-    "l": (30, 26, 0, 16, 16, 0, 6, 6),
-    "words": (34, 16, 8, 11, 11, 10, 5, 5),
+    "k": (48, 8, 28, 4, 4, 4, 4, 0, 4),
+    "o": (66, 24, 0, 0, 0, 0, 10, 0, 10),
+    "n": (0, 0, 0, 0, 0, 0, 0, 2, 1),
+    "l": (30, 26, 0, 16, 16, 0, 6, 6, 2),
+    "words": (34, 16, 8, 11, 11, 10, 5, 5, 5),
 }
 READINGS = ("1/5", "tick:5", "114189959168", "1/0001742400.32768", "cuc:2e001cfde04000")
 RANGES = (["--from=5", "--to=300"], ["--from=256", "--to=4096"], ["--from=0", "--to=124452904960"], ["--from=9", "--to=8"])
@@ -107,12 +107,14 @@ class Mutant:
         words = ["--kernel=k"]
         if self.command not in ("normal", "excerpt"):
             words += [f"--sc={self.sc}", "--leap=l"]
-        if self.command in ("publish", "residuals", "least", "audit"):
+        if self.command in ("publish", "residuals", "least", "audit", "plot"):
             words.append("--obs=o")
         if self.command == "publish":
             words += option_words(self.options)
         if self.command == "audit":
             words += ["--new=n", *option_words(self.options, "id")]
+        if self.command == "plot":
+            words.append("--new=n")
         if self.command == "excerpt":
             words += [f"--sc={self.sc}", *rng.choice(RANGES), *rng.choice([[], ["--over=n"]])]
         if self.command == "convert":

@@ -292,6 +292,6 @@ cause_of status.WriteFault =
 cause_of status.NoMemory = codes "memory ran out. This says nothing of the files."
 cause_of (status.TimeRefused stop) = cause_of_time stop
 cause_of (status.AuditNo fault) = cause_of_audit fault
-cause_of (status.NewRefused stop) = cause_of_text stop
+cause_of (status.NewRefused stop) = cause_of_kernel stop
 cause_of (status.ExcerptRefused fault) = cause_of_excerpt fault
 cause_of (status.OverRefused place stop) = cause_of_text stop

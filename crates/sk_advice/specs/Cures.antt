@@ -90,11 +90,6 @@ abbrev pub cure_of_text : TextStop → List ℕ
 cure_of_text text_stop.TooLong = codes "Is it a kernel? docs/DAILY.md tells how to trim the comments of one."
 cure_of_text (text_stop.Grammar fault) = cure_of_grammar fault
 
--- of the text of a kernel that is to be judged
-abbrev pub cure_of_new : TextStop → List ℕ
-cure_of_new text_stop.TooLong = codes "Trim the comments of the old kernel, as docs/DAILY.md tells, and publish over it again."
-cure_of_new (text_stop.Grammar fault) = cure_of_grammar fault
-
 -- of a missing variable of the leap seconds
 abbrev pub cure_of_leap_name : LeapName → List ℕ
 cure_of_leap_name leap_name.DeltaTA =
@@ -175,6 +170,14 @@ cure_of_kernel (kernel_stop.Grammar fault) = cure_of_grammar fault
 cure_of_kernel (kernel_stop.Pool fault) = cure_of_pool fault
 cure_of_kernel (kernel_stop.Clock fault) = cure_of_clock_kernel fault
 cure_of_kernel (kernel_stop.Triples fault) = cure_of_triples fault
+
+-- of the kernel of `--new`
+abbrev pub cure_of_new : KernelStop → List ℕ
+cure_of_new kernel_stop.TooLong = codes "Trim the comments of the old kernel, as docs/DAILY.md tells, and publish over it again."
+cure_of_new (kernel_stop.Grammar fault) = cure_of_grammar fault
+cure_of_new (kernel_stop.Pool fault) = cure_of_pool fault
+cure_of_new (kernel_stop.Clock fault) = cure_of_clock_kernel fault
+cure_of_new (kernel_stop.Triples fault) = cure_of_triples fault
 
 -- of a clock reading
 abbrev pub cure_of_count : ClockFault → List ℕ

@@ -155,7 +155,7 @@ subject_of status.WriteFault = Nothing
 subject_of status.NoMemory = Nothing
 subject_of (status.TimeRefused stop) = Given opt.Time
 subject_of (status.AuditNo fault) = subject_of_audit fault
-subject_of (status.NewRefused stop) = File opt.New (place_of_text stop)
+subject_of (status.NewRefused stop) = File opt.New (place_of_kernel stop)
 subject_of (status.ExcerptRefused fault) = Given opt.From
 subject_of (status.OverRefused place stop) = Over place (place_of_text stop)
 

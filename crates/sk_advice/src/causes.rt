@@ -409,7 +409,7 @@ pub fn status_cause(status: Status) -> &'static str
         Status::NoMemory => "memory ran out. This says nothing of the files.",
         Status::TimeRefused(stop) => time_cause(stop),
         Status::AuditNo(fault) => audit_cause(fault),
-        Status::NewRefused(stop) => text_cause(stop),
+        Status::NewRefused(stop) => kernel_cause(stop),
         Status::ExcerptRefused(fault) => excerpt_cause(fault),
         Status::OverRefused(_, stop) => text_cause(stop),
     }

@@ -366,14 +366,17 @@ fn fit_cure(fault: FitFault) -> &'static str
 }
 
 // Comments of the new kernel alone cannot be taken out: it would not be the old one and a block.
-fn new_cure(stop: TextStop) -> &'static str
+fn new_cure(stop: KernelStop) -> &'static str
     ensures { result.now ≡ cure_of_new stop }
 {
     match stop {
-        TextStop::TooLong => {
+        KernelStop::TooLong => {
             "Trim the comments of the old kernel, as docs/DAILY.md tells, and publish over it again."
         }
-        TextStop::Grammar(fault) => grammar_cure(fault),
+        KernelStop::Grammar(fault) => grammar_cure(fault),
+        KernelStop::Pool(fault) => pool_cure(fault),
+        KernelStop::Clock(fault) => clock_kernel_cure(fault),
+        KernelStop::Triples(fault) => triples_cure(fault),
     }
 }
 

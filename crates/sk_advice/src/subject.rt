@@ -236,7 +236,7 @@ pub fn subject_of(status: Status) -> Subject
         Status::NoMemory => Subject::Nothing,
         Status::TimeRefused(_) => Subject::Given(OptionName::Time),
         Status::AuditNo(fault) => audit_subject(fault),
-        Status::NewRefused(stop) => Subject::File(OptionName::New, place_in_text(stop)),
+        Status::NewRefused(stop) => Subject::File(OptionName::New, place_in_kernel(stop)),
         Status::ExcerptRefused(_) => Subject::Given(OptionName::From),
         Status::OverRefused(number, stop) => Subject::Over(number, place_in_text(stop)),
     }

@@ -60,3 +60,18 @@ impl Model for AuditInputs {
 
     ghost invariant = { λ a. length a.inputs.observations ≤ 100_000 };
 }
+
+/// The clock kernel and the observations, and the second kernel where there is one.
+#[derive(Drop)]
+pub struct PlotInputs {
+    pub inputs: Inputs,
+    pub second: Option<Kernel>,
+}
+
+impl Model for PlotInputs {
+    ghost use Rattle.sk_outcome.specs.Drawn.{PlotRead};
+
+    ghost Value = { PlotRead };
+
+    ghost view = { λ p. record { inputs = p.inputs; second = p.second } };
+}

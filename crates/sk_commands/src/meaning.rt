@@ -8,6 +8,7 @@ ghost use Rattle.sk_triples.specs.Coefficients.{AreTriplesOf};
 ghost use Rattle.sk_triples.specs.Kernel.{AreOf};
 ghost use Rattle.sk_outcome.specs.Stage.{MayAnswer};
 ghost use Rattle.sk_outcome.specs.Files.{HasFew, leap_pool as leap_pool_stage, leap_table as leap_table_stage, leap_meaning as leap_stage, kernel_pool as pool_stage, kernel_clock as clock_stage, kernel_triples as triples_stage, kernel_meaning as kernel_stage, observed as observed_stage};
+ghost use Rattle.sk_outcome.specs.Drawn.{as_new as as_new_by, new_meaning};
 
 use crate::kernel::Kernel;
 use sk_clock::{Clock, ClockKernelFault};
@@ -136,6 +137,28 @@ pub fn kernel_meaning(alloc: Global, doc: Doc, sc: u32) -> Result<Kernel, Status
         clock,
         triples,
     })
+}
+
+/// A refusal of a clock kernel, as one of the second kernel.
+fn as_new(status: Status) -> Status
+    ensures { result ≡ as_new_by status }
+{
+    match status {
+        Status::KernelRefused(stop) => Status::NewRefused(stop),
+        other => other,
+    }
+}
+
+/// What a document means as the second kernel.
+pub fn second_meaning(alloc: Global, doc: Doc, sc: u32) -> Result<Kernel, Status>
+    requires few { HasFew doc }
+    requires number { IsInRange 1 999_999_999 sc }
+    ensures { MayAnswer (λ k. k) (new_meaning sc doc) result }
+{
+    match kernel_meaning(alloc, doc, sc) {
+        Ok(kernel) => Ok(kernel),
+        Err(status) => Err(as_new(status)),
+    }
 }
 
 /// The observations of a file.

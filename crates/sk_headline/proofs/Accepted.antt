@@ -45,7 +45,8 @@ use Rattle.sk_headline.specs.Headline.{AreHeld, IsShort, IsPublished, terms_for,
 use Rattle.sk_headline.specs.Accepted.{published_with, SpellsPublished, AreHeldToJudge, AcceptedArePublished, PublishedAreAccepted, WrittenIsAccepted, CanonicalIsPublished}
 use Rattle.sk_headline.specs.Uses.{quiet}
 use Rattle.sk_headline.proofs.Candidates.{some_with, some_without, tick_at, all_ticks, numbers_are, in_threes, values_one, text_of, dated_back}
-use Rattle.sk_headline.proofs.Complete.{IsCalm, AreKnown, asked_for, audit_determined}
+use Rattle.sk_headline.proofs.Commands.{IsCalm, AreKnown, audit_determined}
+use Rattle.sk_headline.proofs.Complete.{asked_for}
 use Rattle.sk_headline.proofs.Documents.{spelled_valid}
 use Rattle.sk_headline.proofs.Exactly.{known_leap, known_file, read_so, inputs_are}
 use Rattle.sk_headline.proofs.OneAnswer.{doc_one}

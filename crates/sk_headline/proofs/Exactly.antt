@@ -37,7 +37,8 @@ use Rattle.sk_outcome.specs.Output.{settings_of, new_kernel, published_doc}
 use Rattle.sk_outcome.specs.Outcome.{requested, outcome, outcome_of, publish, publish_of}
 use Rattle.sk_outcome.specs.Publishing.{after_chain}
 use Rattle.sk_headline.specs.Headline.{AreHeld, IsShort, IsLeapHeld, GivePairs, IsKernel, IsPublished}
-use Rattle.sk_headline.proofs.Complete.{IsCalm, AreKnown, asked_for, inputs_determined}
+use Rattle.sk_headline.proofs.Commands.{IsCalm, AreKnown, inputs_determined}
+use Rattle.sk_headline.proofs.Complete.{asked_for}
 use Rattle.sk_headline.proofs.NewTriples.{new_triples_seen}
 use Rattle.sk_headline.proofs.OneText.{one_text}
 use Rattle.sk_headline.proofs.Published.{published_text}

@@ -5,6 +5,7 @@ pub mod LeapTables
 pub mod OneUtc
 pub mod OneVerdict
 pub mod Known
+pub mod Commands
 pub mod Complete
 pub mod NewTriples
 pub mod Reread

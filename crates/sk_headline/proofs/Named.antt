@@ -5,7 +5,7 @@ use Rattle.std.specs.Option.{option_to_list, option_map_or}
 use Rattle.sk_grammar.specs.Document.{DocView}
 use Rattle.sk_leap.specs.declared.pair.LeapPair.{LeapPair}
 use Rattle.sk_words.specs.declared.tables.Command.{Command}
-use Rattle.sk_words.specs.declared.tables.Command.TheVariants.{Publish, Residuals, Normal, Convert, Sample, Invert, Audit, Excerpt, Least}
+use Rattle.sk_words.specs.declared.tables.Command.TheVariants.{Publish, Residuals, Normal, Convert, Sample, Invert, Audit, Excerpt, Least, Plot}
 use Rattle.sk_words.specs.declared.tables.OptionName.TheVariants as opt
 use Rattle.sk_words.specs.declared.topic.Topic.{Topic}
 use Rattle.sk_words.specs.Asked.{Request}
@@ -21,13 +21,15 @@ use Rattle.sk_status.specs.declared.status.FileKind.TheVariants.{Document, Obser
 use Rattle.sk_excerpt.specs.Excerpt.{joined}
 use Rattle.sk_outcome.specs.Stage.{Stage, ◌>>=◌, gives}
 use Rattle.sk_outcome.specs.Seen.{Source}
-use Rattle.sk_outcome.specs.Files.{reads, judged, file_limit, DocOf, refused_by, document, leap_named, leap_file, leap_meaning, kernel_document, kernel_meaning, kernel_file, observation_file, observed, OpenedRead, InputsRead, AuditRead, opened_read, inputs_read, candidate_document, audit_read, sc_of}
-use Rattle.sk_outcome.specs.Outcome.{requested, commanded, told_or, outcome, outcome_of, publish_of, residuals_of, normal_of, convert_of, sample, invert_of, audit_of, excerpt_of, least_of}
+use Rattle.sk_outcome.specs.Files.{reads, judged, file_limit, DocOf, refused_by, document, leap_named, leap_file, leap_meaning, kernel_document, kernel_meaning, kernel_file, observation_file, observed, KernelRead, OpenedRead, InputsRead, AuditRead, opened_read, inputs_read, candidate_document, audit_read, sc_of}
+use Rattle.sk_outcome.specs.Outcome.{requested, commanded, told_or, outcome, outcome_of, publish_of, residuals_of, normal_of, convert_of, sample, invert_of, audit_of, excerpt_of, least_of, plot_of}
 use Rattle.sk_outcome.specs.Joined.{over_documents, joined_behind, named_over, joined_kernel}
+use Rattle.sk_outcome.specs.Drawn.{new_meaning, second_of, second_named, second_kernel, PlotRead, plot_read}
 use Rattle.sk_headline.specs.Uses.{quiet, EachNamed, OneOutcome, NamedFilesAlone}
 use Rattle.sk_headline.proofs.Determined.{gives_determined}
 use Rattle.sk_headline.proofs.Known.{front_known, others_known, one_known, named_known}
-use Rattle.sk_headline.proofs.Complete.{have_bytes, command_determined, requested_determined}
+use Rattle.sk_headline.proofs.Commands.{have_bytes, command_determined}
+use Rattle.sk_headline.proofs.Complete.{requested_determined}
 
 -- ---- the names of a command's files
 
@@ -96,6 +98,12 @@ module _ (s u : Source) (read : s.given ≤ u.given) where
   leap_named_moved (Some name) same =
       then_moved (document s Leap name) (document u Leap name) leap_meaning leap_meaning (document_moved Leap name same) (λ doc. unmoved (leap_meaning doc))
 
+  second_moved : (sc : ℕ) (name : Option (List ℕ)) → IfSome name Same → Moved (second_named s sc name) (second_named u sc name)
+  second_moved sc None same = unmoved (gives {A = Option KernelRead} None)
+  second_moved sc (Some name) same =
+      then_moved (document s New name) (document u New name) (λ doc. new_meaning sc doc >>= (λ kernel. gives (second_of kernel))) (λ doc. new_meaning sc doc >>= (λ kernel. gives (second_of kernel)))
+      (document_moved New name same) (λ doc. unmoved (new_meaning sc doc >>= (λ kernel. gives (second_of kernel))))
+
   over_moved : (place : ℕ) (names : List (List ℕ)) → All Same names → Moved (over_documents s place names) (over_documents u place names)
   over_moved place [] same = unmoved (gives {A = List DocView} [])
   over_moved place (name ∷ names) same =
@@ -160,6 +168,16 @@ module _ (s u : Source) (read : s.given ≤ u.given) where
         (λ doc. gives {A = AuditRead} (record { inputs = inputs; candidate = doc })) (λ doc. gives {A = AuditRead} (record { inputs = inputs; candidate = doc }))
         (document_moved New (text_or opt.New options) candidate) (λ doc. unmoved (gives {A = AuditRead} (record { inputs = inputs; candidate = doc }))))
 
+    plot_moved : IfSome (options opt.Leap) Same → HaveKernel → Same (text_or opt.Obs options) → IfSome (options opt.New) Same → Moved (plot_read s options) (plot_read u options)
+    plot_moved leap kernel observations new =
+        then_moved (inputs_read s options) (inputs_read u options)
+        (λ inputs. second_kernel s options >>= (λ second. gives {A = PlotRead} (record { inputs = inputs; second = second })))
+        (λ inputs. second_kernel u options >>= (λ second. gives {A = PlotRead} (record { inputs = inputs; second = second })))
+        (inputs_moved leap kernel observations)
+        (λ inputs. then_moved (second_kernel s options) (second_kernel u options)
+        (λ second. gives {A = PlotRead} (record { inputs = inputs; second = second })) (λ second. gives {A = PlotRead} (record { inputs = inputs; second = second }))
+        (second_moved (sc_of options) (options opt.New) new) (λ second. unmoved (gives {A = PlotRead} (record { inputs = inputs; second = second }))))
+
     -- ---- commands
 
     given : (name : Option (List ℕ)) → is_none name ≡ false → IfSome name Same → Same (unwrap_or name [])
@@ -192,6 +210,10 @@ module _ (s u : Source) (read : s.given ≤ u.given) where
     command_moved Least named files =
         then_moved (inputs_read s options) (inputs_read u options) (least_of options) (least_of options)
         (inputs_moved files.leap (given (options opt.Kernel) named.0 files.kernel) (given (options opt.Obs) named.1 files.observations)) (λ inputs. unmoved (least_of options inputs))
+    command_moved Plot named files =
+        then_moved (plot_read s options) (plot_read u options) (plot_of options) (plot_of options)
+        (plot_moved files.leap (given (options opt.Kernel) named.0 files.kernel) (given (options opt.Obs) named.1 files.observations) files.new)
+        (λ read. unmoved (plot_of options read))
 
 -- ---- the whole
 

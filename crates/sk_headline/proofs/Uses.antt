@@ -50,7 +50,7 @@ use Rattle.sk_outcome.specs.Time.{form_checks, IsUtcWord}
 use Rattle.sk_outcome.specs.Outcome.{TimeOf, TickOf, convert_of}
 use Rattle.sk_headline.specs.Headline.{IsShort, IsKernel, GivePairs, IsPublished, terms_for, block_with}
 use Rattle.sk_headline.specs.Uses.{ReadAgain, AddsNothing, AddsOneBlock, NoneAddsNone, SameDocument, CanonicalIsRead, TextIsRead, UtcIsRead}
-use Rattle.sk_headline.proofs.Complete.{kernel_file_determined, convert_of_determined}
+use Rattle.sk_headline.proofs.Commands.{kernel_file_determined, convert_of_determined}
 use Rattle.sk_headline.proofs.Documents.{spelled_valid}
 use Rattle.sk_headline.proofs.Exactly.{kernel_read, known_file}
 use Rattle.sk_headline.proofs.Inverted.{time_one}

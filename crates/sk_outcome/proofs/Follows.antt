@@ -7,7 +7,7 @@ use Rattle.sk_excerpt.specs.Excerpt.{joined}
 use Rattle.sk_status.specs.declared.status.DocumentKind.TheVariants.{Leap, Kernel, New, Over}
 use Rattle.sk_status.specs.declared.status.FileKind.TheVariants.{Document, Observations}
 use Rattle.sk_words.specs.declared.tables.Command.{Command}
-use Rattle.sk_words.specs.declared.tables.Command.TheVariants.{Publish, Residuals, Normal, Convert, Sample, Invert, Audit, Excerpt, Least}
+use Rattle.sk_words.specs.declared.tables.Command.TheVariants.{Publish, Residuals, Normal, Convert, Sample, Invert, Audit, Excerpt, Least, Plot}
 use Rattle.sk_words.specs.declared.tables.OptionName.TheVariants as opt
 use Rattle.sk_words.specs.Asked.{Request}
 use Rattle.sk_words.specs.Request.{Options, text_or}
@@ -16,9 +16,10 @@ use Rattle.sk_words.specs.Help.{page_of}
 use Rattle.sk_words.specs.Topics.{topic_of}
 use Rattle.sk_outcome.specs.Stage.{Stage, ◌>>=◌, gives}
 use Rattle.sk_outcome.specs.Seen.{Source}
-use Rattle.sk_outcome.specs.Files.{reads, judged, DocOf, refused_by, document, leap_meaning, leap_named, leap_file, kernel_document, kernel_meaning, kernel_file, observed, observation_file, OpenedRead, InputsRead, AuditRead, opened_read, inputs_read, candidate_document, audit_read, sc_of}
-use Rattle.sk_outcome.specs.Outcome.{requested, commanded, told_or, outcome, outcome_of, publish_of, residuals_of, normal_of, convert_of, sample_of, invert_of, audit_of, least_of, excerpt_of}
+use Rattle.sk_outcome.specs.Files.{reads, judged, DocOf, refused_by, document, leap_meaning, leap_named, leap_file, kernel_document, kernel_meaning, kernel_file, observed, observation_file, KernelRead, OpenedRead, InputsRead, AuditRead, opened_read, inputs_read, candidate_document, audit_read, sc_of}
+use Rattle.sk_outcome.specs.Outcome.{requested, commanded, told_or, outcome, outcome_of, publish_of, residuals_of, normal_of, convert_of, sample_of, invert_of, audit_of, least_of, excerpt_of, plot_of}
 use Rattle.sk_outcome.specs.Sample.{made_inputs}
+use Rattle.sk_outcome.specs.Drawn.{new_meaning, second_of, second_named, second_kernel, PlotRead, plot_read}
 use Rattle.sk_outcome.specs.Joined.{over_documents, joined_behind, named_over, joined_kernel}
 use Rattle.sk_leap.specs.declared.pair.LeapPair.{LeapPair}
 use Rattle.sk_outcome.proofs.Moves.{Follows, then_follows, reads_follow, no_reading}
@@ -89,6 +90,27 @@ candidate_follows options inputs =
 audit_follows : (options : Options) → Follows (λ s. audit_read s options)
 audit_follows options = then_follows (λ s. inputs_read s options) (candidate_after options) (inputs_follow options) (candidate_follows options)
 
+-- ---- a second kernel
+
+pub second_named_follows : (sc : ℕ) (name : Option (List ℕ)) → Follows (λ s. second_named s sc name)
+second_named_follows sc None = no_reading (gives {A = Option KernelRead} None)
+second_named_follows sc (Some name) =
+    then_follows (λ s. document s New name) (λ s doc. new_meaning sc doc >>= (λ kernel. gives (second_of kernel))) (document_follows New name)
+    (λ doc. no_reading (new_meaning sc doc >>= (λ kernel. gives (second_of kernel))))
+
+-- what came before was read, and the second kernel follows
+abbrev pub second_after : Options → Source → InputsRead → Stage PlotRead
+second_after options source inputs = second_kernel source options >>= (λ second. gives (record { inputs = inputs; second = second }))
+
+pub second_follows : (options : Options) (inputs : InputsRead) → Follows (λ s. second_after options s inputs)
+second_follows options inputs =
+    then_follows (λ s. second_kernel s options) (λ s second. gives {A = PlotRead} (record { inputs = inputs; second = second }))
+    (second_named_follows (sc_of options) (options opt.New))
+    (λ second. no_reading (gives {A = PlotRead} (record { inputs = inputs; second = second })))
+
+plot_follows : (options : Options) → Follows (λ s. plot_read s options)
+plot_follows options = then_follows (λ s. inputs_read s options) (second_after options) (inputs_follow options) (second_follows options)
+
 -- ---- several kernels
 
 pub over_follows : (place : ℕ) (names : List (List ℕ)) → Follows (λ s. over_documents s place names)
@@ -120,6 +142,7 @@ command_follows Invert options = then_follows (λ s. opened_read s options) (λ 
 command_follows Audit options = then_follows (λ s. audit_read s options) (λ s read. audit_of options read) (audit_follows options) (λ read. no_reading (audit_of options read))
 command_follows Excerpt options = then_follows (λ s. joined_kernel s options) (λ s doc. excerpt_of options doc) (joined_follows options) (λ doc. no_reading (excerpt_of options doc))
 command_follows Least options = then_follows (λ s. inputs_read s options) (λ s inputs. least_of options inputs) (inputs_follow options) (λ inputs. no_reading (least_of options inputs))
+command_follows Plot options = then_follows (λ s. plot_read s options) (λ s read. plot_of options read) (plot_follows options) (λ read. no_reading (plot_of options read))
 
 commanded_follows : (words : List (List ℕ)) → Follows (λ s. commanded words s)
 commanded_follows words =

@@ -1,4 +1,6 @@
 pub mod Moves
+pub mod Second
+pub mod Pictures
 pub mod Follows
 pub mod Converted
 pub mod Additions

@@ -45,7 +45,7 @@ file_limit = 16777216
 abbrev pub document_too_long : DocumentKind → Status
 document_too_long Leap = LeapRefused leap_stop.TooLong
 document_too_long Kernel = KernelRefused kernel_stop.TooLong
-document_too_long New = NewRefused text_stop.TooLong
+document_too_long New = NewRefused kernel_stop.TooLong
 document_too_long (Over place) = OverRefused place text_stop.TooLong
 
 abbrev pub too_long : FileKind → Status
@@ -56,7 +56,7 @@ too_long Observations = ObservationRefused obs_stop.TooLong
 abbrev pub refused_by : DocumentKind → GrammarFault → Status
 refused_by Leap fault = LeapRefused (leap_stop.Grammar fault)
 refused_by Kernel fault = KernelRefused (kernel_stop.Grammar fault)
-refused_by New fault = NewRefused (text_stop.Grammar fault)
+refused_by New fault = NewRefused (kernel_stop.Grammar fault)
 refused_by (Over place) fault = OverRefused place (text_stop.Grammar fault)
 
 -- The bytes of a file; or a fault, where its count rose; or that it is too long.

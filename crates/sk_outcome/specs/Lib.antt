@@ -5,6 +5,7 @@ pub mod Joined
 pub mod Time
 pub mod Output
 pub mod Sample
+pub mod Drawn
 pub mod Outcome
 pub mod Ending
 pub mod Publishing

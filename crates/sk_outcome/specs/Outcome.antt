@@ -28,7 +28,7 @@ use Rattle.sk_excerpt.specs.Excerpt as ex
 use Rattle.sk_least.specs.Answer as cover
 use Rattle.sk_least.specs.declared.stretch.Stretch.{Stretch}
 use Rattle.sk_words.specs.declared.tables.Command.{Command}
-use Rattle.sk_words.specs.declared.tables.Command.TheVariants.{Publish, Residuals, Normal, Convert, Sample, Invert, Audit, Excerpt, Least}
+use Rattle.sk_words.specs.declared.tables.Command.TheVariants.{Publish, Residuals, Normal, Convert, Sample, Invert, Audit, Excerpt, Least, Plot}
 use Rattle.sk_status.specs.declared.status.Status.{Status}
 use Rattle.sk_status.specs.declared.status.Status.TheVariants.{WordsRefused, ObservationRefused, NotPublished, TimeRefused, AuditNo, ExcerptRefused, NoMemory}
 use Rattle.sk_status.specs.declared.status.ObsStop.TheVariants as obs_stop
@@ -47,6 +47,9 @@ use Rattle.sk_outcome.specs.Joined.{joined_kernel}
 use Rattle.sk_outcome.specs.Output.{settings_of, audit_settings_of, plain_table, published_doc, tick_fields, time_by, line_of, yes_line, least_text, new_kernel}
 use Rattle.sk_outcome.specs.Time.{time_stops, IsUtcWord}
 use Rattle.sk_outcome.specs.Sample.{made_inputs, sample_line}
+use Rattle.sk_plot.specs.Point.{PanelView}
+use Rattle.sk_plot.specs.Picture.{picture_of}
+use Rattle.sk_outcome.specs.Drawn.{PlotRead, plot_read, panel_of, title_of, foot_of, tolerance_of}
 
 -- ---- parts of several commands
 
@@ -239,6 +242,33 @@ least source options = do
   inputs ← inputs_read source options
   least_of options inputs
 
+-- a kernel's panel of the picture, where each observation has a time by it
+abbrev pub paneled : KernelRead → List RowView → Stage PanelView
+paneled kernel rows = do
+  covers ← all_covered kernel.triples rows
+  gives (panel_of kernel rows)
+
+abbrev pub second_panel : Option KernelRead → List RowView → Stage (Option PanelView)
+second_panel None rows = gives None
+second_panel (Some kernel) rows = do
+  panel ← paneled kernel rows
+  gives (Some panel)
+
+-- the picture of the observations, and of the same ones by the second kernel
+abbrev pub drawing_of : Options → PanelView → Option PanelView → List ℕ
+drawing_of options panel newer = picture_of (title_of options) (foot_of options) (tolerance_of options) panel newer
+
+abbrev pub plot_of : Options → PlotRead → Stage (List ℕ)
+plot_of options read = do
+  panel ← paneled read.inputs.kernel read.inputs.observations
+  newer ← second_panel read.second read.inputs.observations
+  gives (drawing_of options panel newer)
+
+abbrev pub plot : Source → Options → Stage (List ℕ)
+plot source options = do
+  read ← plot_read source options
+  plot_of options read
+
 -- ---- the whole
 
 abbrev pub outcome_of : Command → Source → Options → Stage (List ℕ)
@@ -251,6 +281,7 @@ outcome_of Invert = invert
 outcome_of Audit = audit
 outcome_of Excerpt = excerpt
 outcome_of Least = least
+outcome_of Plot = plot
 
 -- the words
 abbrev pub requested : List (List ℕ) → Stage Request

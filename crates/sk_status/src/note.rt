@@ -91,7 +91,7 @@ fn push_status(line: &mut Line, status: Status)
         Status::NoMemory => push_word(line, "Memory"),
         Status::TimeRefused(stop) => push_time(line, stop),
         Status::AuditNo(fault) => push_audit(line, fault),
-        Status::NewRefused(stop) => push_text_stop(line, stop),
+        Status::NewRefused(stop) => push_kernel_stop(line, stop),
         Status::ExcerptRefused(fault) => push_excerpt(line, fault),
         Status::OverRefused(place, stop) => push_over(line, place, stop),
     }

@@ -80,7 +80,7 @@ pub enum Status {
     NoMemory,
     TimeRefused(TimeStop),
     AuditNo(AuditFault),
-    NewRefused(TextStop),
+    NewRefused(KernelStop),
     ExcerptRefused(ExcerptFault),
     OverRefused(u32, TextStop),
 }

@@ -10,7 +10,7 @@ use Rattle.clap.specs.Words.{Kinds}
 use Rattle.clap.specs.declared.error.kind.ErrorKind.TheVariants as kind
 use Rattle.clap.proofs.OnLiterals.{clap_on_literals}
 use Rattle.sk_words.specs.declared.tables.Command.{Command}
-use Rattle.sk_words.specs.declared.tables.Command.TheVariants.{Publish, Residuals, Normal, Convert, Sample, Invert, Audit, Excerpt, Least}
+use Rattle.sk_words.specs.declared.tables.Command.TheVariants.{Publish, Residuals, Normal, Convert, Sample, Invert, Audit, Excerpt, Least, Plot}
 use Rattle.sk_words.specs.declared.topic.Topic.TheVariants.{Program, Version, Of}
 use Rattle.sk_words.specs.Words.{station, faults, matches}
 use Rattle.sk_words.specs.Request.{command_of, word_of}
@@ -60,6 +60,7 @@ help_command program Invert = refl
 help_command program Audit = refl
 help_command program Excerpt = refl
 help_command program Least = refl
+help_command program Plot = refl
 
 -- ---- a word that is none of these
 
@@ -82,18 +83,18 @@ one_word program word h =
 
 -- ---- the word help, and a command
 
-no_name : (a b d e f g u p q : Bool) → a ≡ false → b ≡ false → d ≡ false → e ≡ false → f ≡ false → g ≡ false → u ≡ false → p ≡ false → q ≡ false
+no_name : (a b d e f g u p q s : Bool) → a ≡ false → b ≡ false → d ≡ false → e ≡ false → f ≡ false → g ≡ false → u ≡ false → p ≡ false → q ≡ false → s ≡ false
     → option_map (λ (command : Command). Of command)
-    (cond a (Some Publish) (cond b (Some Residuals) (cond d (Some Normal) (cond e (Some Convert) (cond f (Some Sample) (cond g (Some Invert) (cond u (Some Audit) (cond p (Some Excerpt) (cond q (Some Least) None))))))))) ≡ None
-no_name a b d e f g u p q h i j k l m r n o = rw (h, i, j, k, l, m, r, n, o) refl
+    (cond a (Some Publish) (cond b (Some Residuals) (cond d (Some Normal) (cond e (Some Convert) (cond f (Some Sample) (cond g (Some Invert) (cond u (Some Audit) (cond p (Some Excerpt) (cond q (Some Least) (cond s (Some Plot) None)))))))))) ≡ None
+no_name a b d e f g u p q s h i j k l m r n o t = rw (h, i, j, k, l, m, r, n, o, t) refl
 
 after_help : (program name : List ℕ) → Asks (program ∷ codes "help" ∷ name ∷ []) → option_map (λ (command : Command). Of command) (command_by_word name) ≡ None
 after_help program name h =
     let at : (command : Command) → bytes_eq (word_of command) name ≡ false =
     λ command. differs (word_of command) name (λ e. some_fault (program ∷ codes "help" ∷ word_of command ∷ []) kind.UnknownArgument [] (help_command program command)
     (subst (λ (w : List ℕ). Asks (program ∷ codes "help" ∷ w ∷ [])) (sym e) h)) in
-    no_name (bytes_eq (word_of Publish) name) (bytes_eq (word_of Residuals) name) (bytes_eq (word_of Normal) name) (bytes_eq (word_of Convert) name) (bytes_eq (word_of Sample) name) (bytes_eq (word_of Invert) name) (bytes_eq (word_of Audit) name) (bytes_eq (word_of Excerpt) name) (bytes_eq (word_of Least) name)
-    (at Publish) (at Residuals) (at Normal) (at Convert) (at Sample) (at Invert) (at Audit) (at Excerpt) (at Least)
+    no_name (bytes_eq (word_of Publish) name) (bytes_eq (word_of Residuals) name) (bytes_eq (word_of Normal) name) (bytes_eq (word_of Convert) name) (bytes_eq (word_of Sample) name) (bytes_eq (word_of Invert) name) (bytes_eq (word_of Audit) name) (bytes_eq (word_of Excerpt) name) (bytes_eq (word_of Least) name) (bytes_eq (word_of Plot) name)
+    (at Publish) (at Residuals) (at Normal) (at Convert) (at Sample) (at Invert) (at Audit) (at Excerpt) (at Least) (at Plot)
 
 chosen : {A : Type 0} (b : Bool) (x y : Option A) → (b ≡ true → x ≡ None) → y ≡ None → cond b x y ≡ None
 chosen true x y h k = h refl

@@ -2,7 +2,7 @@
 use Rattle.std.proofs.Common.{◌≡◌, List, ℕ, Option, None, Ok, false, sym, subst}
 use Rattle.std.specs.Prelude.{is_none}
 use Rattle.sk_words.specs.declared.tables.Command.{Command}
-use Rattle.sk_words.specs.declared.tables.Command.TheVariants.{Publish, Residuals, Normal, Convert, Sample, Invert, Audit, Excerpt, Least}
+use Rattle.sk_words.specs.declared.tables.Command.TheVariants.{Publish, Residuals, Normal, Convert, Sample, Invert, Audit, Excerpt, Least, Plot}
 use Rattle.sk_words.specs.declared.tables.OptionName.TheVariants as opt
 use Rattle.sk_words.specs.Words.{matches}
 use Rattle.sk_words.specs.Request.{Options, options_of, options_fault, first_missing, first_out_of_range, needs, used}
@@ -23,6 +23,7 @@ AreNamed Invert options = IsGiven (options opt.Kernel)
 AreNamed Audit options = IsGiven (options opt.Kernel) × IsGiven (options opt.Obs) × IsGiven (options opt.New)
 AreNamed Excerpt options = IsGiven (options opt.Kernel)
 AreNamed Least options = IsGiven (options opt.Kernel) × IsGiven (options opt.Obs)
+AreNamed Plot options = IsGiven (options opt.Kernel) × IsGiven (options opt.Obs)
 
 named : (command : Command) (options : Options) → options_fault command options ≡ None → AreNamed command (used command options)
 named Publish options h =
@@ -41,6 +42,9 @@ named Audit options h =
 named Excerpt options h = (none_found (λ name. is_none (options name)) (needs Excerpt) (no_fault (first_missing Excerpt options) (first_out_of_range options) h).0).0
 named Least options h =
     let given = none_found (λ name. is_none (options name)) (needs Least) (no_fault (first_missing Least options) (first_out_of_range options) h).0 in
+    (given.0, given.1.0)
+named Plot options h =
+    let given = none_found (λ name. is_none (options name)) (needs Plot) (no_fault (first_missing Plot options) (first_out_of_range options) h).0 in
     (given.0, given.1.0)
 
 pub are_named : (words : List (List ℕ)) (request : Request) → WordsAsk words (Ok request) → AreNamed request.command request.options

@@ -6,7 +6,7 @@ use Rattle.std.specs.Str.Parse.{digits_value}
 use Rattle.std.proofs.lemmas.Bool.{false≢true}
 use Rattle.clap.specs.Words.{Row}
 use Rattle.sk_words.specs.declared.tables.Command.{Command}
-use Rattle.sk_words.specs.declared.tables.Command.TheVariants.{Publish, Residuals, Normal, Convert, Sample, Invert, Audit, Excerpt, Least}
+use Rattle.sk_words.specs.declared.tables.Command.TheVariants.{Publish, Residuals, Normal, Convert, Sample, Invert, Audit, Excerpt, Least, Plot}
 use Rattle.sk_words.specs.declared.tables.OptionName.{OptionName}
 use Rattle.sk_words.specs.declared.tables.OptionName.TheVariants as opt
 use Rattle.sk_words.specs.declared.fault.WordsFault.TheVariants.{UnknownCommand, NeedOption, OutOfRange}
@@ -76,3 +76,4 @@ sc_given rows Invert h needed = number_part (options_of rows opt.Sc) (given rows
 sc_given rows Audit h needed = number_part (options_of rows opt.Sc) (given rows Audit h).1.1.0 (within rows Audit h)
 sc_given rows Excerpt h needed = number_part (options_of rows opt.Sc) (given rows Excerpt h).1.0 (within rows Excerpt h)
 sc_given rows Least h needed = number_part (options_of rows opt.Sc) (given rows Least h).1.1.0 (within rows Least h)
+sc_given rows Plot h needed = number_part (options_of rows opt.Sc) (given rows Plot h).1.1.0 (within rows Plot h)

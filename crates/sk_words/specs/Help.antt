@@ -4,7 +4,7 @@ use Rattle.std.specs.List.{flat_map, list_any}
 use Rattle.std.specs.Str.{bytes_eq}
 use Rattle.sk_words.specs.declared.limits.Numbers.{Numbers}
 use Rattle.sk_words.specs.declared.tables.Command.{Command}
-use Rattle.sk_words.specs.declared.tables.Command.TheVariants.{Publish, Residuals, Normal, Convert, Sample, Invert, Audit, Excerpt, Least}
+use Rattle.sk_words.specs.declared.tables.Command.TheVariants.{Publish, Residuals, Normal, Convert, Sample, Invert, Audit, Excerpt, Least, Plot}
 use Rattle.sk_words.specs.declared.tables.OptionName.{OptionName}
 use Rattle.sk_words.specs.declared.tables.OptionName.TheVariants as opt
 use Rattle.sk_words.specs.declared.topic.Topic.{Topic}
@@ -69,7 +69,7 @@ about opt.Seed = codes "number from which all else of the sample follows"
 about opt.Count = codes "how many observations"
 about opt.Reject = codes "how many observations may be dropped"
 about opt.Time = codes "tdt:SECONDS or utc:YYYY-MM-DDThh:mm:ss"
-about opt.New = codes "clock kernel that is to be judged"
+about opt.New = codes "second clock kernel: to be judged, or drawn too"
 about opt.Over = codes "further clock kernels, with commas between"
 about opt.From = codes "first encoded tick"
 about opt.To = codes "last encoded tick"
@@ -113,6 +113,7 @@ writes Invert = codes "the last clock reading that is not after one time"
 writes Audit = codes "whether a kernel is what the options and files publish"
 writes Excerpt = codes "the part of a kernel that a range of ticks needs"
 writes Least = codes "how few lines can meet the observations, and why no fewer"
+writes Plot = codes "a picture of how far each observation lies from the kernel"
 
 abbrev pub remarks : Command → List (List ℕ)
 remarks Publish = codes "Writes the kernel with one block more. Write it to a new file: > empties a file" ∷ codes "before it is read. docs/DAILY.md tells how to choose the options." ∷ []
@@ -124,6 +125,7 @@ remarks Invert = codes "Writes one line: clock reading, encoded tick and its TDT
 remarks Audit = codes "Writes yes where the kernel of --new is that of --kernel and the one block that" ∷ codes "publish would add with these options and any --id. Its layout does not count." ∷ []
 remarks Excerpt = codes "Writes one block with each variable's values, as the kernels give them in this" ∷ codes "order; of the coefficients what the ticks need. Comments of blocks are left out." ∷ []
 remarks Least = codes "Writes least;RUNS, and for each run of one line its first id, its last id, and" ∷ codes "last, partition or bent:A:B:C:D, which are records that no one line meets." ∷ []
+remarks Plot = codes "Writes one SVG document: a mark for each difference in microseconds over days of" ∷ codes "TDT, with the band of --tol-ns; the same by the kernel of --new; and the rates." ∷ []
 
 -- the options that a command needs
 abbrev pub needed_text : Command → List ℕ

@@ -9,7 +9,7 @@ use Rattle.clap.specs.Words.{Row}
 use Rattle.sk_words.specs.KernelId.{is_calendar_time}
 use Rattle.sk_words.specs.Words.{option_text, command_text}
 use Rattle.sk_words.specs.declared.tables.Command.{Command}
-use Rattle.sk_words.specs.declared.tables.Command.TheVariants.{Publish, Residuals, Normal, Convert, Sample, Invert, Audit, Excerpt, Least}
+use Rattle.sk_words.specs.declared.tables.Command.TheVariants.{Publish, Residuals, Normal, Convert, Sample, Invert, Audit, Excerpt, Least, Plot}
 use Rattle.sk_words.specs.declared.tables.OptionName.{OptionName}
 use Rattle.sk_words.specs.declared.tables.OptionName.TheVariants as opt
 use Rattle.sk_words.specs.declared.limits.Numbers.{Numbers}
@@ -54,9 +54,10 @@ word_of Invert = codes "invert"
 word_of Audit = codes "audit"
 word_of Excerpt = codes "excerpt"
 word_of Least = codes "least"
+word_of Plot = codes "plot"
 
 abbrev pub all_commands : List Command
-all_commands = Publish ∷ Residuals ∷ Normal ∷ Convert ∷ Sample ∷ Invert ∷ Audit ∷ Excerpt ∷ Least ∷ []
+all_commands = Publish ∷ Residuals ∷ Normal ∷ Convert ∷ Sample ∷ Invert ∷ Audit ∷ Excerpt ∷ Least ∷ Plot ∷ []
 
 -- the options that a command needs, in the order of the option table
 abbrev pub needs : Command → List OptionName
@@ -69,6 +70,7 @@ needs Invert = opt.Kernel ∷ opt.Sc ∷ opt.Time ∷ []
 needs Audit = opt.Kernel ∷ opt.Obs ∷ opt.Sc ∷ opt.New ∷ []
 needs Excerpt = opt.Kernel ∷ opt.Sc ∷ opt.From ∷ opt.To ∷ []
 needs Least = opt.Kernel ∷ opt.Obs ∷ opt.Sc ∷ []
+needs Plot = opt.Kernel ∷ opt.Obs ∷ opt.Sc ∷ []
 
 -- the options that a command uses; others that are given are checked for their range alone
 abbrev pub uses : Command → List OptionName
@@ -81,6 +83,7 @@ uses Invert = opt.Leap ∷ opt.Kernel ∷ opt.Sc ∷ opt.Time ∷ []
 uses Audit = opt.Leap ∷ opt.Kernel ∷ opt.Obs ∷ opt.Sc ∷ opt.TolNs ∷ opt.RateDecimals ∷ opt.BandPpm ∷ opt.SlipNs ∷ opt.Hold ∷ opt.Reject ∷ opt.New ∷ []
 uses Excerpt = opt.Kernel ∷ opt.Sc ∷ opt.Over ∷ opt.From ∷ opt.To ∷ []
 uses Least = opt.Leap ∷ opt.Kernel ∷ opt.Obs ∷ opt.Sc ∷ opt.TolNs ∷ []
+uses Plot = opt.Leap ∷ opt.Kernel ∷ opt.Obs ∷ opt.Sc ∷ opt.TolNs ∷ opt.New ∷ []
 
 -- ---- ranges
 

@@ -53,7 +53,7 @@ impl OptionName {
             OptionName::Count => "how many observations",
             OptionName::Reject => "how many observations may be dropped",
             OptionName::Time => "tdt:SECONDS or utc:YYYY-MM-DDThh:mm:ss",
-            OptionName::New => "clock kernel that is to be judged",
+            OptionName::New => "second clock kernel: to be judged, or drawn too",
             OptionName::Over => "further clock kernels, with commas between",
             OptionName::From => "first encoded tick",
             OptionName::To => "last encoded tick",
@@ -103,6 +103,11 @@ static LEAST_REMARKS: [&str; 2] = [
     "last, partition or bent:A:B:C:D, which are records that no one line meets.",
 ];
 
+static PLOT_REMARKS: [&str; 2] = [
+    "Writes one SVG document: a mark for each difference in microseconds over days of",
+    "TDT, with the band of --tol-ns; the same by the kernel of --new; and the rates.",
+];
+
 impl Command {
     /// What the command writes.
     pub fn writes(self) -> &'static str
@@ -118,6 +123,7 @@ impl Command {
             Command::Audit => "whether a kernel is what the options and files publish",
             Command::Excerpt => "the part of a kernel that a range of ticks needs",
             Command::Least => "how few lines can meet the observations, and why no fewer",
+            Command::Plot => "a picture of how far each observation lies from the kernel",
         }
     }
 
@@ -135,6 +141,7 @@ impl Command {
             Command::Audit => AUDIT_REMARKS.as_slice(),
             Command::Excerpt => EXCERPT_REMARKS.as_slice(),
             Command::Least => LEAST_REMARKS.as_slice(),
+            Command::Plot => PLOT_REMARKS.as_slice(),
         }
     }
 }

@@ -3,7 +3,7 @@
 ghost use Rattle.std.specs.Prelude.{◌≡◌, ◌∷◌, ◌++◌, IfOk, OnOk, codes, map, drop, string_bytes};
 ghost use Rattle.std.specs.List.{flat_map};
 ghost use Rattle.sk_words.specs.Request.{all_commands, all_options, name_of, needs, uses, numbers_of};
-ghost use Rattle.sk_words.specs.Help.{blanks as blanks_of, command_page as command_page_of, command_rows, default_text as default_by, given_as, heading_of, is_shown as is_shown_by, lines, needed_text, numbers_row, opening as opening_lines, closing as closing_lines, numbers_text as numbers_by, opening_rows, option_rows, others_of, page_of, program_page as program_page_of, row, shown_rows, usage_of, version_page as version_page_of};
+ghost use Rattle.sk_words.specs.Help.{blanks as blanks_of, command_page as command_page_of, command_rows, default_text as default_by, given_as, heading_of, is_shown as is_shown_by, lines, needed_text, numbers_row, opening as opening_lines, closing as closing_lines, numbers_text as numbers_by, opening_rows, option_rows, others_of, page_of, program_page as program_page_of, row, shown_rows, usage_of, version as version_by, version_page as version_page_of};
 
 use crate::limits::Numbers;
 use crate::tables::{Command, OptionName};
@@ -238,6 +238,13 @@ fn push_usage(page: &mut Vec<u8>, command: Command) -> Result<(), NoMemory>
     push_needs(page, command)?;
     push_text(page, others(command))?;
     Ok(())
+}
+
+/// The version of the program.
+pub fn version() -> &'static str
+    ensures { result.now ≡ version_by }
+{
+    VERSION
 }
 
 fn version_page(alloc: Global) -> Result<Vec<u8>, NoMemory>

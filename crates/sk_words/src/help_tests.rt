@@ -38,7 +38,7 @@ fn three_words_ask_for_the_whole_help(rt: HostRuntime) -> Result<(), Fail> {
         "\n                      1 to 60000000000; 1000000 where it is not given\n",
         "\n  --sc=N              number of the spacecraft, with NAIF's minus sign or not\n                      1 to 999999999\n",
         "\n  audit               whether a kernel is what the options and files publish\n                      needs --kernel --obs --sc --new\n",
-        "\n  --new=FILE          clock kernel that is to be judged\n",
+        "\n  --new=FILE          second clock kernel: to be judged, or drawn too\n",
         "\n\nStatus: 0 done, ",
     ];
     for part in parts {

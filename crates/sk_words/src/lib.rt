@@ -25,7 +25,7 @@ mod topic;
 
 pub use fault::{WordsFault, WordsStop};
 pub use given::{GivenWords, given_in, station_words};
-pub use help::page;
+pub use help::{page, version};
 pub use laws::ids_are_calendar_times;
 pub use matched::{MatchStop, refusal_text};
 pub use request::{Request, requested};

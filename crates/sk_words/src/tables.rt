@@ -41,9 +41,10 @@ pub enum Command {
     Audit,
     Excerpt,
     Least,
+    Plot,
 }
 
-static COMMANDS: [Command; 9] = [
+static COMMANDS: [Command; 10] = [
     Command::Publish,
     Command::Residuals,
     Command::Normal,
@@ -53,6 +54,7 @@ static COMMANDS: [Command; 9] = [
     Command::Audit,
     Command::Excerpt,
     Command::Least,
+    Command::Plot,
 ];
 
 static OPTIONS: [OptionName; 19] = [
@@ -180,6 +182,17 @@ static LEAST_USES: [OptionName; 5] = [
     OptionName::TolNs,
 ];
 
+static PLOT_NEEDS: [OptionName; 3] = [OptionName::Kernel, OptionName::Obs, OptionName::Sc];
+
+static PLOT_USES: [OptionName; 6] = [
+    OptionName::Leap,
+    OptionName::Kernel,
+    OptionName::Obs,
+    OptionName::Sc,
+    OptionName::TolNs,
+    OptionName::New,
+];
+
 impl OptionName {
     /// All options, in the order of their table.
     pub fn all() -> &'static [OptionName]
@@ -238,6 +251,7 @@ impl Command {
             Command::Audit => "audit",
             Command::Excerpt => "excerpt",
             Command::Least => "least",
+            Command::Plot => "plot",
         }
     }
 
@@ -255,6 +269,7 @@ impl Command {
             Command::Audit => AUDIT_NEEDS.as_slice(),
             Command::Excerpt => EXCERPT_NEEDS.as_slice(),
             Command::Least => LEAST_NEEDS.as_slice(),
+            Command::Plot => PLOT_NEEDS.as_slice(),
         }
     }
 
@@ -272,6 +287,7 @@ impl Command {
             Command::Audit => AUDIT_USES.as_slice(),
             Command::Excerpt => EXCERPT_USES.as_slice(),
             Command::Least => LEAST_USES.as_slice(),
+            Command::Plot => PLOT_USES.as_slice(),
         }
     }
 

@@ -116,7 +116,7 @@ fn refusal(alloc: Global, words: &[&str]) -> (&'static str, &'static str) {
 #[test]
 fn words_are_judged_in_the_order_of_the_tables(rt: HostRuntime) {
     let alloc = rt.alloc();
-    let table: [(&[&str], &str, &str); 15] = [
+    let table: [(&[&str], &str, &str); 18] = [
         (&["station", "normal", "--kernel="], "OutOfRange", "kernel"),
         (&["station", "normal"], "NeedOption", "kernel"),
         (&["station", "frob", "--kernel=k"], "UnknownCommand", ""),
@@ -170,6 +170,28 @@ fn words_are_judged_in_the_order_of_the_tables(rt: HostRuntime) {
             &["station", "least", "--sc=99", "--kernel=k", "--obs=o"],
             "Taken",
             "",
+        ),
+        (
+            &["station", "plot", "--sc=99", "--kernel=k"],
+            "NeedOption",
+            "obs",
+        ),
+        (
+            &["station", "plot", "--sc=99", "--kernel=k", "--obs=o"],
+            "Taken",
+            "",
+        ),
+        (
+            &[
+                "station",
+                "plot",
+                "--sc=99",
+                "--kernel=k",
+                "--obs=o",
+                "--new=",
+            ],
+            "OutOfRange",
+            "new",
         ),
         (
             &["station", "audit", "--sc=99", "--kernel=k", "--obs=o"],

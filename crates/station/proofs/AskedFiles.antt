@@ -6,12 +6,12 @@ use Rattle.std.proofs.lemmas.List.{length-map, get_or-map, take_more}
 use Rattle.sk_edge.specs.Asked.{Asks, IsPart}
 use Rattle.sk_edge.proofs.Asking.{Asks-then, part_all, part_behind, part_front, part_append}
 use Rattle.sk_words.specs.declared.tables.Command.{Command}
-use Rattle.sk_words.specs.declared.tables.Command.TheVariants.{Publish, Residuals, Normal, Convert, Sample, Invert, Audit, Excerpt, Least}
+use Rattle.sk_words.specs.declared.tables.Command.TheVariants.{Publish, Residuals, Normal, Convert, Sample, Invert, Audit, Excerpt, Least, Plot}
 use Rattle.sk_words.specs.declared.tables.OptionName.TheVariants as opt
 use Rattle.sk_words.specs.Request.{Options, files_of, over_names, text_or}
 use Rattle.sk_words.proofs.Needed.{AreNamed}
 use Rattle.sk_outcome.specs.Joined.{named_over}
-use Rattle.station.specs.Asking.{opened_names, inputs_names, audit_names, joined_names, names_read}
+use Rattle.station.specs.Asking.{opened_names, inputs_names, audit_names, plot_names, joined_names, names_read}
 
 named_part : (name : Option (List ℕ)) → is_none name ≡ false → IsPart (unwrap_or name [] ∷ []) (option_to_list name)
 named_part None given = cc
@@ -58,6 +58,15 @@ audit_part options kernel observations new =
     (opened_part options kernel) (named_part (options opt.Obs) observations))
     (named_part (options opt.New) new))
 
+plot_part : (options : Options) → is_none (options opt.Kernel) ≡ false → is_none (options opt.Obs) ≡ false → IsPart (plot_names options) (files_of options)
+plot_part options kernel observations =
+    let three = leap_in options ++ kernel_in options ++ observations_in options in
+    part_front (plot_names options) (three ++ new_in options) (over_in options)
+    (part_append (inputs_names options) three (new_in options) (new_in options)
+    (part_append (opened_names options) (leap_in options ++ kernel_in options) (text_or opt.Obs options ∷ []) (observations_in options)
+    (opened_part options kernel) (named_part (options opt.Obs) observations))
+    (part_all (new_in options)))
+
 two_part : (options : Options) → is_none (options opt.Kernel) ≡ false → IsPart (opened_names options) (files_of options)
 two_part options given =
     among_three options (opened_names options)
@@ -90,6 +99,7 @@ names_part Invert options named = two_part options named
 names_part Audit options named = audit_part options named.0 named.1 named.2
 names_part Excerpt options named = joined_part options named
 names_part Least options named = inputs_part options named.0 named.1
+names_part Plot options named = plot_part options named.0 named.1
 
 -- ---- files one after the other, by their places
 

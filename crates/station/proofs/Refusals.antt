@@ -1,10 +1,10 @@
--- What the stages of a run refuse is no end of a run that wrote.
-use Rattle.std.proofs.Common.{◌≡◌, ℕ, ℤ, pos, ◌*ℤ◌, ◌^◌, ◌+◌, ◌++◌, List, Option, Some, None, Result, Ok, Err, [], ◌∷◌, sym, subst, inl, inr}
-use Rattle.std.specs.Prelude.{codes, unwrap_or, IsSomeAnd}
+-- What the commands refuse is no end of a run that wrote.
+use Rattle.std.proofs.Common.{◌≡◌, ℕ, ℤ, pos, ◌*ℤ◌, ◌^◌, ◌+◌, ◌++◌, List, Option, Some, None, Result, Err, [], ◌∷◌, sym, subst, inl, inr}
+use Rattle.std.specs.Prelude.{unwrap_or, IsSomeAnd}
 use Rattle.sk_status.specs.declared.status.Status.{Status}
-use Rattle.sk_status.specs.declared.status.Status.TheVariants.{Done, WordsRefused, LeapRefused, KernelRefused, ObservationRefused, NotPublished, WriteFault, NoMemory, TimeRefused, AuditNo, ExcerptRefused}
+use Rattle.sk_status.specs.declared.status.Status.TheVariants.{Done, WordsRefused, LeapRefused, KernelRefused, ObservationRefused, NotPublished, ReadFault, WriteFault, NoMemory, TimeRefused, AuditNo, NewRefused, ExcerptRefused, OverRefused}
 use Rattle.sk_words.specs.declared.tables.Command.{Command}
-use Rattle.sk_words.specs.declared.tables.Command.TheVariants.{Publish, Residuals, Normal, Convert, Sample, Invert, Audit, Excerpt, Least}
+use Rattle.sk_words.specs.declared.tables.Command.TheVariants.{Publish, Residuals, Normal, Convert, Sample, Invert, Audit, Excerpt, Least, Plot}
 use Rattle.sk_status.specs.declared.status.FileKind.{FileKind}
 use Rattle.sk_status.specs.declared.status.FileKind.TheVariants.{Document, Observations}
 use Rattle.sk_status.specs.declared.status.DocumentKind.{DocumentKind}
@@ -27,12 +27,15 @@ use Rattle.sk_grammar.specs.declared.fault.GrammarFault.{GrammarFault}
 use Rattle.sk_grammar.specs.declared.fault.GrammarFault.TheVariants as grammar
 use Rattle.sk_pool.specs.declared.pool.PoolFault.{PoolFault}
 use Rattle.sk_pool.specs.declared.pool.PoolFault.TheVariants.{AppendMixed}
+use Rattle.sk_pool.specs.declared.pool.PoolFault.TheVariants as pool_fault
 use Rattle.sk_pool.specs.Pool.{pool_checks}
 use Rattle.sk_leap.specs.declared.table.LeapFault.{LeapFault}
 use Rattle.sk_leap.specs.Kernel.{leap_checks, entry_checks, entries_of, delta_at}
 use Rattle.sk_clock.specs.declared.fault.ClockKernelFault.{ClockKernelFault}
+use Rattle.sk_clock.specs.declared.fault.ClockKernelFault.TheVariants as clock_fault
 use Rattle.sk_clock.specs.Kernel.{clock_checks}
 use Rattle.sk_triples.specs.declared.triple.TriplesFault.{TriplesFault}
+use Rattle.sk_triples.specs.declared.triple.TriplesFault.TheVariants as triples_fault
 use Rattle.sk_triples.specs.Coefficients.{triples_checks, row_checks, rows_of, values_for}
 use Rattle.sk_obs.specs.declared.fault.ObsFault.{ObsFault}
 use Rattle.sk_obs.specs.declared.fault.ObsFault.TheVariants.{BadDelay, TimeRange, OutOfOrder}
@@ -47,11 +50,7 @@ use Rattle.sk_report.specs.Report.{table_checks}
 use Rattle.sk_report.specs.declared.fault.ReportFault.{ReportFault}
 use Rattle.sk_report.specs.declared.fault.ReportFault.TheVariants as report_fault
 use Rattle.sk_words.specs.declared.fault.WordsFault.{WordsFault}
-use Rattle.sk_words.specs.declared.topic.Topic.{Topic}
-use Rattle.sk_words.specs.Help.{page_of}
-use Rattle.sk_words.specs.Topics.{topic_of}
 use Rattle.sk_outcome.specs.Stage.{Stage, ◌>>=◌, MayAnswer, gives, some}
-use Rattle.sk_words.specs.Asked.{WordsAsk}
 use Rattle.sk_words.specs.Request.{Options, text_or, number_or}
 use Rattle.sk_outcome.specs.Files as files
 use Rattle.sk_outcome.specs.Seen.{Source}
@@ -60,7 +59,7 @@ use Rattle.sk_inverse.specs.Inverse.{IsTickOf, inverse_checks}
 use Rattle.sk_sample.specs.Sample.{kernel_text, spacecraft, observations_text}
 use Rattle.sk_inverse.specs.declared.fault.InverseFault.{InverseFault}
 use Rattle.sk_inverse.specs.declared.fault.InverseFault.TheVariants as inverse_fault
-use Rattle.sk_outcome.specs.Outcome.{requested, commanded, told_or, outcome, outcome_of, publish, publish_of, chain_of, residuals, residuals_of, normal, normal_of, convert, convert_of, converted, sample, sample_of, sampled, invert, invert_of, said, ticked, told, TimeOf, status_of_time, clock_tick, TickOf, covered, tabled, all_covered, status_of_report, audit, audit_of, audited, accepted, VerdictOf, least, least_of, ShortestCover, excerpt, excerpt_of, cut_out}
+use Rattle.sk_outcome.specs.Outcome.{outcome_of, publish, publish_of, chain_of, residuals, residuals_of, normal, normal_of, convert, convert_of, converted, sample, sample_of, sampled, invert, invert_of, said, ticked, told, TimeOf, status_of_time, clock_tick, TickOf, covered, tabled, all_covered, status_of_report, audit, audit_of, audited, accepted, VerdictOf, least, least_of, ShortestCover, excerpt, excerpt_of, cut_out, plot, plot_of, paneled, second_panel, drawing_of}
 use Rattle.sk_excerpt.specs.Excerpt.{joined, excerpt_checks, IsExcerpt}
 use Rattle.sk_excerpt.specs.declared.fault.ExcerptFault.{ExcerptFault}
 use Rattle.sk_outcome.specs.Joined.{over_documents, joined_behind, named_over, joined_kernel}
@@ -69,34 +68,30 @@ use Rattle.sk_outcome.specs.Output.{settings_of, plain_table, new_kernel, publis
 use Rattle.sk_outcome.specs.Sample.{made_kernel, made_observations, made_inputs, sample_line, seed_of, count_of}
 use Rattle.sk_least.specs.declared.stretch.Stretch.{Stretch}
 use Rattle.sk_outcome.specs.Time.{IsUtcWord}
-use Rattle.sk_outcome.proofs.Follows.{kernel_after, rows_after, candidate_after}
-use Rattle.sk_outcome.specs.Ending.{Ends}
-use Rattle.sk_status.specs.Written.{Written, IsUntouched}
+use Rattle.sk_plot.specs.Point.{PanelView}
+use Rattle.sk_outcome.specs.Drawn.{as_new, new_meaning, second_of, second_named, second_kernel, PlotRead, plot_read, panel_of}
+use Rattle.sk_outcome.proofs.Follows.{kernel_after, rows_after, candidate_after, second_after}
 use Rattle.sk_status.specs.Notes.{CarriesNoMemory}
 
 -- the end of a run that wrote
-abbrev Wrote : Status → Type 0
+abbrev pub Wrote : Status → Type 0
 Wrote Done = Unit {0}
 Wrote WriteFault = Unit {0}
 Wrote status = ⊥
 
--- the end of a run that was refused: nothing was written, and want of memory is not the reason
-abbrev Ended : Status → Type 0
-Ended status = (Wrote status → ⊥) × CarriesNoMemory status
-
 -- the words are not the reason
-abbrev TakesWords : Status → Type 0
+abbrev pub TakesWords : Status → Type 0
 TakesWords (WordsRefused fault) = ⊥
 TakesWords status = Unit {0}
 
 -- the end of a command that was refused, whose words were taken
-abbrev Stands : Status → Type 0
+abbrev pub Stands : Status → Type 0
 Stands status = (Wrote status → ⊥) × CarriesNoMemory status × TakesWords status
 
 standing : (⊥ → ⊥) × Unit {0} × Unit {0}
 standing = (λ w. w, tt, tt)
 
-abbrev Always : {A : Type 0} → Stage A → Type 0
+abbrev pub Always : {A : Type 0} → Stage A → Type 0
 Always stage = (status : Status) → stage (Err status) → Stands status
 
 always_then : {A B : Type 0} (first : Stage A) (next : A → Stage B) → Always first → ((a : A) → Always (next a)) → Always (first >>= next)
@@ -414,7 +409,68 @@ always_excerpt source options =
     (λ kernel. always_then (cut kernel) normal_of (always_cut (sc_of options) (number_or 0 opt.From options) (number_or 0 opt.To options) kernel)
     (λ part. always_gives (canonical_text part))))
 
-always_command : (command : Command) (source : Source) (options : Options) → Always (outcome_of command source options)
+-- a refusal of a clock kernel, as one of the second kernel
+new_stands : (status : Status) → Stands status → Stands (as_new status)
+new_stands (KernelRefused kernel_stop.TooLong) h = standing
+new_stands (KernelRefused (kernel_stop.Grammar grammar.NoMemory)) h = absurd h.1
+new_stands (KernelRefused (kernel_stop.Grammar _)) h = standing
+new_stands (KernelRefused (kernel_stop.Pool pool_fault.NoMemory)) h = absurd h.1
+new_stands (KernelRefused (kernel_stop.Pool _)) h = standing
+new_stands (KernelRefused (kernel_stop.Clock clock_fault.NoMemory)) h = absurd h.1
+new_stands (KernelRefused (kernel_stop.Clock _)) h = standing
+new_stands (KernelRefused (kernel_stop.Triples triples_fault.NoMemory)) h = absurd h.1
+new_stands (KernelRefused (kernel_stop.Triples _)) h = standing
+new_stands Done h = h
+new_stands (WordsRefused fault) h = h
+new_stands (LeapRefused stop) h = h
+new_stands (ObservationRefused stop) h = h
+new_stands (NotPublished fault) h = h
+new_stands (ReadFault kind) h = h
+new_stands WriteFault h = h
+new_stands NoMemory h = h
+new_stands (TimeRefused stop) h = h
+new_stands (AuditNo fault) h = h
+new_stands (NewRefused stop) h = h
+new_stands (ExcerptRefused fault) h = h
+new_stands (OverRefused place stop) h = h
+
+always_second_named : (source : Source) (sc : ℕ) (o : Option (List ℕ)) → Always (second_named source sc o)
+always_second_named source sc None = always_gives {A = Option KernelRead} None
+always_second_named source sc (Some name) =
+    always_then (files.document source New name) (λ doc. new_meaning sc doc >>= (λ kernel. gives (second_of kernel))) (always_document source New name)
+    (λ doc. always_then (new_meaning sc doc) (λ kernel. gives (second_of kernel))
+    (always_judged (files.kernel_meaning sc doc) as_new (λ status h. new_stands status (always_meaning sc doc status h)))
+    (λ kernel. always_gives (second_of kernel)))
+
+always_plot_read : (source : Source) (options : Options) → Always (plot_read source options)
+always_plot_read source options =
+    always_then (inputs_read source options) (second_after options source) (always_inputs source options)
+    (λ inputs. always_then (second_kernel source options) (λ second. gives {A = PlotRead} (record { inputs = inputs; second = second }))
+    (always_second_named source (sc_of options) (options opt.New))
+    (λ second. always_gives {A = PlotRead} (record { inputs = inputs; second = second })))
+
+always_paneled : (kernel : KernelRead) (rows : List RowView) → Always (paneled kernel rows)
+always_paneled kernel rows =
+    always_then (all_covered kernel.triples rows) (λ covers. gives (panel_of kernel rows)) (always_all_covered kernel.triples rows)
+    (λ covers. always_gives (panel_of kernel rows))
+
+always_second_panel : (second : Option KernelRead) (rows : List RowView) → Always (second_panel second rows)
+always_second_panel None rows = always_gives {A = Option PanelView} None
+always_second_panel (Some kernel) rows =
+    always_then (paneled kernel rows) (λ panel. gives {A = Option PanelView} (Some panel)) (always_paneled kernel rows)
+    (λ panel. always_gives {A = Option PanelView} (Some panel))
+
+always_plot : (source : Source) (options : Options) → Always (plot source options)
+always_plot source options =
+    always_then (plot_read source options) (plot_of options) (always_plot_read source options)
+    (λ read. always_then (paneled read.inputs.kernel read.inputs.observations)
+    (λ panel. second_panel read.second read.inputs.observations >>= (λ newer. gives (drawing_of options panel newer)))
+    (always_paneled read.inputs.kernel read.inputs.observations)
+    (λ panel. always_then (second_panel read.second read.inputs.observations) (λ newer. gives (drawing_of options panel newer))
+    (always_second_panel read.second read.inputs.observations)
+    (λ newer. always_gives (drawing_of options panel newer))))
+
+pub always_command : (command : Command) (source : Source) (options : Options) → Always (outcome_of command source options)
 always_command Publish source options = always_publish source options
 always_command Residuals source options = always_residuals source options
 always_command Normal source options = always_normal source options
@@ -424,44 +480,10 @@ always_command Invert source options = always_invert source options
 always_command Audit source options = always_audit source options
 always_command Excerpt source options = always_excerpt source options
 always_command Least source options = always_least source options
+always_command Plot source options = always_plot source options
 
 -- no command refuses its words
 pub takes_words : {X : Type 0} (view : X → List ℕ) (command : Command) (source : Source) (options : Options) (fault : WordsFault) (r : Result X Status)
     → MayAnswer view (outcome_of command source options) r → r ≡ Err (WordsRefused fault) → ⊥
 takes_words {X} view command source options fault r h e =
     (always_command command source options (WordsRefused fault) (subst (λ (q : Result X Status). MayAnswer view (outcome_of command source options) q) e h)).2
-
-commanded_ended : (words : List (List ℕ)) (source : Source) (status : Status) → commanded words source (Err status) → Ended status
-commanded_ended words source status (inl h) = subst Ended (sym h.2) (λ w. w, tt)
-commanded_ended words source status (inr h) = let s = always_command h.0.command source h.0.options status h.2 in (s.0, s.1)
-
-told_ended : (topic : Option Topic) (next : Stage (List ℕ)) (status : Status) → (next (Err status) → Ended status) → told_or topic next (Err status) → Ended status
-told_ended (Some topic) next status f h = cc
-told_ended None next status f h = f h
-
-always_outcome : (words : List (List ℕ)) (source : Source) (status : Status) → outcome words source (Err status) → Ended status
-always_outcome words source status h =
-    told_ended (topic_of (codes "station" ∷ words)) (commanded (codes "station" ∷ words) source) status (commanded_ended (codes "station" ∷ words) source status) h
-
--- a run that wrote the text of its stage
-pub ends_text : (stage : Stage (List ℕ)) (text : List ℕ) (out : Written) (status : Status) → stage (Ok text) → Ends (gives text) out status → Ends stage out status
-ends_text stage text out Done h e = (e.0, subst stage (sym e.1) h, e.2)
-ends_text stage text out WriteFault h e = (e.0, (e.1.0, subst stage (sym e.1.1) h, e.1.2))
-ends_text stage text out NoMemory h e = e
-ends_text stage text out status h e = absurd (no_error status text e.0)
-  where
-    no_error : (s : Status) (t : List ℕ) → ◌≡◌ {A = Result (List ℕ) Status} (Err s) (Ok t) → ⊥
-    no_error s t k = cc
-
--- a run that was refused, and wrote nothing
-pub ends_refused : {X : Type 0} (view : X → List ℕ) (words : List (List ℕ)) (source : Source) (out : Written) (status : Status)
-    → MayAnswer view (outcome words source) (Err status) → IsUntouched out → Ends (outcome words source) out status
-ends_refused view words source out Done h u = absurd ((always_outcome words source Done h).0 tt)
-ends_refused view words source out WriteFault h u = absurd ((always_outcome words source WriteFault h).0 tt)
-ends_refused view words source out NoMemory h u = u
-ends_refused view words source out _ h u = (h, u)
-
-pub no_memory_carried : {X : Type 0} (view : X → List ℕ) (words : List (List ℕ)) (source : Source) (status : Status)
-    → MayAnswer view (outcome words source) (Err status) → CarriesNoMemory status
-no_memory_carried view words source NoMemory h = tt
-no_memory_carried view words source _ h = (always_outcome words source _ h).1

@@ -3,7 +3,7 @@ use Rattle.std.specs.Prelude.{◌⊎◌, ℕ, List, [], ◌∷◌, ◌++◌, Opt
 use Rattle.std.specs.Option.{option_to_list}
 use Rattle.sk_edge.specs.Asked.{Asks, AsksAmong}
 use Rattle.sk_words.specs.declared.tables.Command.{Command}
-use Rattle.sk_words.specs.declared.tables.Command.TheVariants.{Publish, Residuals, Normal, Convert, Sample, Invert, Audit, Excerpt, Least}
+use Rattle.sk_words.specs.declared.tables.Command.TheVariants.{Publish, Residuals, Normal, Convert, Sample, Invert, Audit, Excerpt, Least, Plot}
 use Rattle.sk_words.specs.declared.tables.OptionName.TheVariants as opt
 use Rattle.sk_words.specs.Asked.{Request}
 use Rattle.sk_words.specs.Request.{Options, text_or, files_of}
@@ -22,6 +22,10 @@ inputs_names options = opened_names options ++ (text_or opt.Obs options ∷ [])
 abbrev pub audit_names : Options → List (List ℕ)
 audit_names options = inputs_names options ++ (text_or opt.New options ∷ [])
 
+-- the inputs, and then the second kernel, where one is named
+abbrev pub plot_names : Options → List (List ℕ)
+plot_names options = inputs_names options ++ option_to_list (options opt.New)
+
 -- the clock kernel, and those of `--over`
 abbrev pub joined_names : Options → List (List ℕ)
 joined_names options = text_or opt.Kernel options ∷ named_over options
@@ -37,6 +41,7 @@ names_read Invert options = opened_names options
 names_read Audit options = audit_names options
 names_read Excerpt options = joined_names options
 names_read Least options = inputs_names options
+names_read Plot options = plot_names options
 
 -- no file is asked for but those of the command that the words ask for, each at most once, in the order of the options
 abbrev pub AsksBy : Option (List (List ℕ)) → Option (List (List ℕ)) → List (List ℕ) → Type 0

@@ -15,6 +15,9 @@ mod invert_tests;
 mod least_tests;
 mod made;
 mod over;
+mod pictured;
+#[cfg(test)]
+mod plot_tests;
 #[cfg(test)]
 mod publish_tests;
 mod reading;

@@ -22,7 +22,7 @@ fn document_too_long(kind: DocumentKind) -> Status
     match kind {
         DocumentKind::Leap => Status::LeapRefused(LeapStop::TooLong),
         DocumentKind::Kernel => Status::KernelRefused(KernelStop::TooLong),
-        DocumentKind::New => Status::NewRefused(TextStop::TooLong),
+        DocumentKind::New => Status::NewRefused(KernelStop::TooLong),
         DocumentKind::Over(place) => Status::OverRefused(place, TextStop::TooLong),
     }
 }
@@ -44,7 +44,7 @@ fn refused(kind: DocumentKind, fault: GrammarFault) -> Status
     match kind {
         DocumentKind::Leap => Status::LeapRefused(LeapStop::Grammar(fault)),
         DocumentKind::Kernel => Status::KernelRefused(KernelStop::Grammar(fault)),
-        DocumentKind::New => Status::NewRefused(TextStop::Grammar(fault)),
+        DocumentKind::New => Status::NewRefused(KernelStop::Grammar(fault)),
         DocumentKind::Over(place) => Status::OverRefused(place, TextStop::Grammar(fault)),
     }
 }

@@ -25,6 +25,7 @@ use crate::files::kernel_document;
 use crate::inputs::{read_audit, read_inputs, read_opened};
 use crate::made::made_inputs;
 use crate::over::joined_kernel;
+use crate::pictured::read_plot;
 use sk_advice::write_told;
 use sk_checks::NoMemory;
 use sk_commands::audit::audit;
@@ -33,6 +34,7 @@ use sk_commands::excerpt::excerpt;
 use sk_commands::invert::invert;
 use sk_commands::least::least;
 use sk_commands::normal::normal;
+use sk_commands::plot::plot;
 use sk_commands::publish::publish;
 use sk_commands::residuals::residuals;
 use sk_commands::sample::sample;
@@ -63,6 +65,7 @@ fn command_text<D: Depot>(
         Command::Audit => audit(alloc, request, read_audit(alloc, depot, request)?),
         Command::Excerpt => excerpt(alloc, request, joined_kernel(alloc, depot, request)?),
         Command::Least => least(alloc, request, read_inputs(alloc, depot, request)?),
+        Command::Plot => plot(alloc, request, read_plot(alloc, depot, request)?),
     }
 }
 

@@ -5,7 +5,8 @@ use Rattle.sk_words.specs.Request.{Options}
 use Rattle.sk_outcome.specs.Stage.{MayAnswer}
 use Rattle.sk_outcome.specs.Seen.{Source, seen_by}
 use Rattle.sk_outcome.specs.Files.{opened_read, inputs_read, audit_read}
-use Rattle.sk_outcome.specs.Outcome.{outcome_of, publish_of, residuals_of, convert_of, sample_of, invert_of, audit_of, least_of, excerpt_of}
+use Rattle.sk_outcome.specs.Drawn.{plot_read}
+use Rattle.sk_outcome.specs.Outcome.{outcome_of, publish_of, residuals_of, convert_of, sample_of, invert_of, audit_of, least_of, excerpt_of, plot_of}
 use Rattle.sk_outcome.specs.Sample.{made_inputs}
 use Rattle.sk_outcome.specs.Joined.{joined_kernel}
 use Rattle.sk_outcome.proofs.Moves.{may_then, may_end_as, handed_on}
@@ -84,3 +85,21 @@ returns-in_err-read_audit-in-Audit-clause-stage g c =
     (may_end_as (λ a. a) (λ (v : Vec ℕ Global). v.items) (audit_read source options) (audit_of options) c.read_audit.result c.from_residual-in_err-read_audit-in-Audit.result
     c.in_err-read_audit-in-Audit.field-0.0 c.in_err-read_audit-in-Audit.was
     (handed_on c.from_residual-in_err-read_audit-in-Audit.result c.in_err-read_audit-in-Audit.field-0.0 c.from_residual-in_err-read_audit-in-Audit.ensures.1) c.read_audit.ensures.stage)
+
+pub returns-in_ok-read_plot-in-Plot-clause-stage : goal.returns-in_ok-read_plot-in-Plot-clause-stage
+returns-in_ok-read_plot-in-Plot-clause-stage g c =
+    let depot = g.D.Depot in
+    let options : Options = options_in c.args.request.now in
+    let source : Source = seen_by depot.holds depot.given depot.faults c.args.depot.now c.read_plot.new.depot in
+    subst (λ (command : Command). MayAnswer (λ (v : Vec ℕ Global). v.items) (outcome_of command source options) c.plot.result) c.in-Plot.ensures
+    (may_then (λ (v : Vec ℕ Global). v.items) (plot_read source options) (plot_of options) c.in_ok-read_plot-in-Plot.field-0 c.plot.result c.in_ok-read_plot-in-Plot.ensures.stage c.plot.ensures)
+
+pub returns-in_err-read_plot-in-Plot-clause-stage : goal.returns-in_err-read_plot-in-Plot-clause-stage
+returns-in_err-read_plot-in-Plot-clause-stage g c =
+    let depot = g.D.Depot in
+    let options : Options = options_in c.args.request.now in
+    let source : Source = seen_by depot.holds depot.given depot.faults c.args.depot.now c.read_plot.new.depot in
+    subst (λ (command : Command). MayAnswer (λ (v : Vec ℕ Global). v.items) (outcome_of command source options) c.from_residual-in_err-read_plot-in-Plot.result) c.in-Plot.ensures
+    (may_end_as (λ a. a) (λ (v : Vec ℕ Global). v.items) (plot_read source options) (plot_of options) c.read_plot.result c.from_residual-in_err-read_plot-in-Plot.result
+    c.in_err-read_plot-in-Plot.field-0.0 c.in_err-read_plot-in-Plot.was
+    (handed_on c.from_residual-in_err-read_plot-in-Plot.result c.in_err-read_plot-in-Plot.field-0.0 c.from_residual-in_err-read_plot-in-Plot.ensures.1) c.read_plot.ensures.stage)

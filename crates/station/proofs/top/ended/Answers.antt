@@ -5,7 +5,7 @@ use Rattle.sk_outcome.specs.Seen.{seen_by}
 use Rattle.sk_outcome.specs.Stage.{Stage, gives}
 use Rattle.sk_outcome.specs.Ending.{Ends}
 use Rattle.sk_outcome.specs.Outcome.{outcome}
-use Rattle.station.proofs.Refusals.{ends_refused, ends_text, no_memory_carried}
+use Rattle.station.proofs.Endings.{ends_refused, ends_text, no_memory_carried}
 use Rattle.station.proofs.top.ended.Goals as goal
 
 pub returns-in-Err-clause-ends : goal.returns-in-Err-clause-ends
