@@ -65,7 +65,7 @@ const WORD_SLIPS: [(&str, &str, &str); 26] = [
     (
         "audit|--kernel=k|--obs=o|--sc=99",
         "refused;2;NeedOption;new\n",
-        "--new=FILE: clock kernel that is to be judged",
+        "--new=FILE: second clock kernel: to be judged, or drawn too",
     ),
     (
         "audit|--kernel=k|--obs=o|--sc=99|--new=missing",
